@@ -1,0 +1,16 @@
+pub mod Numbers
+pub mod Block
+pub mod Format
+pub mod Machine
+pub mod List
+pub mod Card
+pub mod Dependence
+pub mod Pairs
+pub mod Seeding
+pub mod Estimate
+pub mod Extension
+pub mod Combination
+pub mod Schedule
+pub mod Emission
+pub mod Choice
+pub mod Calls
