@@ -1,6 +1,6 @@
 -- The laws of sets: who is in nobody, in one alone, and in two joined.
 use mathlib.Core.Path.{_≡_, refl, sym, ap, _∙_}
-use mathlib.Core.Bool.{Bool, true, false, _||_}
+use mathlib.Core.Bool.{false, _||_}
 use Prim.Native.Nat.{ℕ, zero, suc, _/_, _%_, _^_, _<_, max}
 use native.Mathlib.Nat.{zero-div, pow-suc}
 use native.Mathlib.Omega.{arith}

@@ -1,9 +1,8 @@
 -- "Numbers returned": for each of the five calls, all that comes back and all that was lent, afterwards. "A refusal returns zeros beside its
 -- number, except that 7 also returns the length needed; nothing lent is written. When done, bytes past the answer keep their contents."
-use Prim.Native.Nat.{ℕ, zero}
-use mathlib.Core.Bool.{Bool, true, false}
+use Prim.Native.Nat.{ℕ}
 use mathlib.Core.Option.{Option, none, some}
-use mathlib.Core.List.{List, [], _∷_, _++_}
+use mathlib.Core.List.{List, [], _++_}
 use lib.Dec.{leb}
 use lib.ListN.{length, drop}
 use Rattle.basics.specs.Choice.{pick}

@@ -1,8 +1,8 @@
 -- "Estimate": what a pair would save, from what its positions and its destination would cost.
 use Prim.Native.Nat.{ℕ, _+_, _-_}
-use mathlib.Core.Bool.{Bool, true, false, _&&_, _||_}
+use mathlib.Core.Bool.{Bool, true, false, _||_}
 use mathlib.Core.Option.{Option, none, some}
-use mathlib.Core.List.{List, [], _∷_, map}
+use mathlib.Core.List.{List, map}
 use lib.Dec.{leb}
 use Rattle.basics.specs.Choice.{pick}
 use Rattle.basics.specs.Counting.{count}

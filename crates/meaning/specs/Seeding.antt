@@ -1,5 +1,4 @@
 -- "Seeding": the first pairs, from cells that stand in a row.
-use Prim.Native.Nat.{ℕ}
 use mathlib.Core.Bool.{Bool, _&&_, _||_}
 use mathlib.Core.List.{List, []}
 use lib.ListN.{length}
