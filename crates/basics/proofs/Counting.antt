@@ -12,6 +12,10 @@ more n i h = omega arith
 pub none-left : (n i : ℕ) → n ≤ i → n - i ≡ 0
 none-left n i h = omega arith
 
+-- at least k and not k is at least k + 1
+pub above : {n k : ℕ} → k ≤ n → (n ≡ k → ⊥) → suc k ≤ n
+above h differ = omega arith
+
 -- what holds before the first number, and from each number to the next, holds behind the last
 pub count-holds {ℓ κ} :
     {A : Type ℓ} (P : ℕ → A → Type κ) (f : ℕ → A → A) (n i : ℕ) (a : A)

@@ -1,0 +1,3 @@
+pub mod Product
+pub mod Past
+pub mod Difference
