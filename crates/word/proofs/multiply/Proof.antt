@@ -1,9 +1,8 @@
+-- `word::multiply` meets its contract.
 use borrow.Author.Needs.{needs}
 use Rattle.word.proofs.Product.{product-fits}
 use Rattle.word.proofs.multiply.Statement.{statement}
 use Rattle.word.proofs.multiply.Tie as tie
-use Rattle.word.proofs.multiply.Reads as reads
-use Rattle.word.proofs.multiply.Lts as lts
 
 mul-product : tie.Need-mul-product
 mul-product c = record { fits = product-fits 32 (search needs) (search needs) }

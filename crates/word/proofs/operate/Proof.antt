@@ -1,3 +1,4 @@
+-- `word::operate` meets its contract.
 use mathlib.Core.Path.{sym}
 use Prim.Native.Nat.{zero-le}
 use Rattle.basics.proofs.Counting.{above}
@@ -7,12 +8,6 @@ use Rattle.word.proofs.Past.{past-operations}
 use borrow.Author.Needs.{needs}
 use Rattle.word.proofs.operate.Statement.{statement}
 use Rattle.word.proofs.operate.Tie as tie
-use Rattle.word.proofs.operate.Reads as reads
-use Rattle.word.proofs.operate.Lts as lts
-use Rattle.std.proofs.num.wrapping_add_u32.Reads as wrapping-add-u32-reads
-use Rattle.std.proofs.num.wrapping_sub_u32.Reads as wrapping-sub-u32-reads
-use Rattle.word.proofs.multiply.Reads as multiply-reads
-use Rattle.word.proofs.shift_right.Reads as shift-right-reads
 
 wrapping-add-u32-requires : tie.Need-wrapping-add-u32-requires
 wrapping-add-u32-requires c κs = search needs
