@@ -1,2 +1,5 @@
-pub mod Readable
 pub mod Bytes
+pub mod Operands
+pub mod Reading
+pub mod Records
+pub mod Readable

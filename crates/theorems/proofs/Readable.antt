@@ -1,132 +1,85 @@
 -- What reading a block answers: a refusal has one of the numbers 1 to 5, and a block that reads keeps every limit of "The block".
-use mathlib.Core.Path.{_≡_, refl, ap, subst, _∙_, fun-ext}
-use mathlib.Core.Bool.{Bool, true, false, _&&_}
-use mathlib.Core.List.{List, [], _∷_}
-use Prim.Native.Nat.{ℕ, zero, suc, _≤_, _<_}
+use mathlib.Core.Path.{_≡_, refl, sym, ap, ap₂, subst, _∙_}
+use mathlib.Core.Bool.{true, _&&_}
+use mathlib.Core.List.{List, [], _∷_, _++_, map, append-assoc, append-nil}
+use Prim.Native.Nat.{ℕ, zero, suc, _+_, _≤_, _<_}
 use native.Mathlib.Omega.{arith}
 use lib.Dec.{eqb, leb}
-use lib.ListN.{length, getD, take, drop}
-use lib.Seq.{take-append-seam}
-use borrow.Author.Tests.{leb-true}
-use Rattle.basics.specs.Choice.{pick}
-use Rattle.basics.specs.Lists.{all}
+use lib.ListN.{length, getD, take, drop, length-drop, take-append-drop}
+use lib.Seq.{length-take-le, take-append-seam, drop-drop, getD-drop}
+use borrow.Author.Tests.{leb-true, eqb-true}
+use Rattle.basics.specs.Lists.{all, flat}
 use Rattle.basics.proofs.Tests.{and-left, and-right, and-both}
-use Rattle.basics.proofs.Parts.{all-at}
-use Rattle.meaning.specs.declared.Operand.{Operand}
-use Rattle.meaning.specs.declared.Operand.the-variants.{Nothing, Constant, Held}
+use Rattle.basics.proofs.Parts.{all-at, all-others, all-take, all-drop, all-behind, no-elements, spelled-front}
 use Rattle.meaning.specs.declared.Statement.{Statement}
-use Rattle.meaning.specs.declared.Record.{Record}
-use Rattle.meaning.specs.declared.Record.the-variants.{Broken, Whole}
-use Rattle.meaning.specs.Numbers.{Answer, refused, done, demand, andThen}
+use Rattle.meaning.specs.Numbers.{refused, done}
 use Rattle.meaning.specs.Block.{Block, declared, declaresStatement}
-use Rattle.meaning.specs.Format.{number, countsFit, lengthFits, wellFormed, statementWidth, readStatement, readBehind, readOperand, readRecord, Rest, inFront, readLengths, readStatements, nothingLeft, readBlock, inMemory}
-
--- a reader's refusal has one of its numbers, and what is done has the property
-abbrev pub ReaderNumber : ℕ → Type 0
-ReaderNumber n = (1 ≤ n) × (n ≤ 5)
-
-abbrev pub Reads : {A : Type 0} → (A → Type 0) → Answer A → Type 0
-Reads P (refused n) = ReaderNumber n
-Reads P (done a) = P a
-
--- along the steps of a reader
-pub demand-reads : {A : Type 0} (P : A → Type 0) (test : Bool) (n : ℕ) (following : Answer A)
-    → ReaderNumber n → (test ≡ true → Reads P following) → Reads P (demand test n following)
-demand-reads P true n following bounds h = h refl
-demand-reads P false n following bounds h = bounds
-
-pub then-reads : {A B : Type 0} (P : A → Type 0) (Q : B → Type 0) (answer : Answer A) (next : A → Answer B)
-    → Reads P answer → ((a : A) → P a → Reads Q (next a)) → Reads Q (andThen answer next)
-then-reads P Q (refused n) next bounds h = bounds
-then-reads P Q (done a) next p h = h a p
-
-pub front-reads : {A : Type 0} (P Q : List A × List ℕ → Type 0) (x : A) (rest : Rest (List A))
-    → Reads P rest → ((read : List A × List ℕ) → P read → Q (x ∷ read .0, read .1)) → Reads Q (inFront x rest)
-front-reads P Q x (refused n) bounds h = bounds
-front-reads P Q x (done read) p h = h read p
-
--- a choice by `elim` between a refusal and what follows is a demand
-elim-demand : {A : Type 0} (test : Bool) (n : ℕ) (following : Answer A) → elim test [ false ↦ refused n | true ↦ following ] ≡ demand test n following
-elim-demand true n following = refl
-elim-demand false n following = refl
-
--- the lengths, one after the other
-pub readLengths-more : (n : ℕ) (bytes : List ℕ)
-    → readLengths (suc n) bytes
-    ≡ demand (leb 2 (length bytes)) 4
-    (demand (lengthFits (number (take 2 bytes))) 3 (inFront (number (take 2 bytes)) (readLengths n (drop 2 bytes))))
-unfolding readLengths
-readLengths-more n bytes =
-    elim-demand (leb 2 (length bytes)) 4 _
-    ∙ ap (demand (leb 2 (length bytes)) 4) (elim-demand (lengthFits (number (take 2 bytes))) 3 _)
-
--- what a record says, as an answer
-abbrev pub said : Record → Answer Statement
-said Broken = refused 4
-said (Whole s) = done s
-
-elim-said : {A : Type 0} (found : Record) (next : Statement → Answer A) → elim found [ Broken ↦ refused 4 | Whole s ↦ next s ] ≡ andThen (said found) next
-elim-said Broken next = refl
-elim-said (Whole s) next = refl
-
--- the statements, one after the other
-pub readStatements-more : (n variables : ℕ) (lengths : List ℕ) (size : ℕ) (bytes : List ℕ)
-    → readStatements (suc n) variables lengths (size ∷ bytes)
-    ≡ demand (leb size (length bytes)) 4
-    (andThen (said (readRecord (take size bytes))) λ s.
-    demand (declaresStatement variables lengths s) 5 (inFront s (readStatements n variables lengths (drop size bytes))))
-unfolding readStatements
-readStatements-more n variables lengths size bytes =
-    elim-demand (leb size (length bytes)) 4 _
-    ∙ ap (demand (leb size (length bytes)) 4) (elim-said (readRecord (take size bytes)) _ ∙ ap (andThen (said (readRecord (take size bytes)))) (fun-ext λ s. elim-demand (declaresStatement variables lengths s) 5 _))
+use Rattle.meaning.specs.Format.{number, bytesOf, countsFit, lengthFits, wellFormed, statementBytes, readRecord, readLengths, readStatements, nothingLeft, readBlock, inMemory, recordBytes, bodyBytes, blockBytes}
+use Rattle.theorems.proofs.Bytes.{isByte, bytes-number}
+use Rattle.theorems.proofs.Reading.{ReaderNumber, Reads, demand-reads, then-reads, front-reads, readLengths-more, said, readStatements-more}
+use Rattle.theorems.proofs.Records.{Said, record-said}
 
 -- what the array lengths come to
-record Lengths (n : ℕ) (read : List ℕ × List ℕ) : Type 0 where
+record Lengths (n : ℕ) (bytes : List ℕ) (read : List ℕ × List ℕ) : Type 0 where
   counted : length (read .0) ≡ n
   fit : all lengthFits (read .0) ≡ true
+  written : all isByte bytes ≡ true → flat (map (bytesOf 2) (read .0)) ++ read .1 ≡ bytes
 
-lengths-read : (n : ℕ) (bytes : List ℕ) → Reads (Lengths n) (readLengths n bytes)
+one-length : (bytes : List ℕ) → 2 ≤ length bytes → all isByte bytes ≡ true → bytesOf 2 (number (take 2 bytes)) ++ drop 2 bytes ≡ bytes
+one-length bytes enough are =
+    ap (λ (front : List ℕ). front ++ drop 2 bytes) (bytes-number 2 (take 2 bytes) (length-take-le 2 bytes enough) (all-take isByte 2 bytes are))
+    ∙ take-append-drop 2 bytes
+
+lengths-read : (n : ℕ) (bytes : List ℕ) → Reads (Lengths n bytes) (readLengths n bytes)
 unfolding readLengths
-lengths-read zero bytes = record { counted = refl; fit = refl }
+lengths-read zero bytes = record { counted = refl; fit = refl; written = λ are. refl }
 lengths-read (suc n) bytes =
     rw readLengths-more
-    (demand-reads (Lengths (suc n)) (leb 2 (length bytes)) 4 _ (omega arith) λ enough.
-    demand-reads (Lengths (suc n)) (lengthFits (number (take 2 bytes))) 3 _ (omega arith) λ fits.
-    front-reads (Lengths n) (Lengths (suc n)) (number (take 2 bytes)) (readLengths n (drop 2 bytes)) (lengths-read n (drop 2 bytes)) λ read h.
-    record { counted = ap suc (h .counted); fit = and-both _ _ fits (h .fit) })
-
--- a record that is whole has a statement that is well formed
-whole-read : (test : Bool) (s : Statement) → (test ≡ true → wellFormed s ≡ true) → Reads (λ s. wellFormed s ≡ true) (said (pick test (Whole s) Broken))
-whole-read true s h = h refl
-whole-read false s h = omega arith
-
-behind-read : (bytes : List ℕ) (o : Operand) → Reads (λ s. wellFormed s ≡ true) (said (readBehind bytes o))
-behind-read bytes Nothing = omega arith
-behind-read bytes (Constant c) = omega arith
-behind-read bytes (Held p) = whole-read (wellFormed (readStatement bytes p) && eqb (length bytes) (statementWidth (readStatement bytes p))) (readStatement bytes p) (and-left _ _)
-
-record-read : (bytes : List ℕ) → Reads (λ s. wellFormed s ≡ true) (said (readRecord bytes))
-unfolding readRecord
-record-read bytes = behind-read bytes (readOperand (drop 1 bytes))
+    (demand-reads (Lengths (suc n) bytes) (leb 2 (length bytes)) 4 _ (omega arith) λ enough.
+    demand-reads (Lengths (suc n) bytes) (lengthFits (number (take 2 bytes))) 3 _ (omega arith) λ fits.
+    front-reads (Lengths n (drop 2 bytes)) (Lengths (suc n) bytes) (number (take 2 bytes)) (readLengths n (drop 2 bytes)) (lengths-read n (drop 2 bytes)) λ read h.
+    record {
+      counted = ap suc (h .counted);
+      fit = and-both _ _ fits (h .fit);
+      written = λ are.
+          ap (λ (rest : List ℕ). bytesOf 2 (number (take 2 bytes)) ++ rest) (h .written (all-drop isByte 2 bytes are))
+          ∙ one-length bytes (leb-true 2 (length bytes) enough) are;
+    })
 
 -- what the statements come to
-record Statements (n variables : ℕ) (lengths : List ℕ) (read : List Statement × List ℕ) : Type 0 where
+record Statements (n variables : ℕ) (lengths bytes : List ℕ) (read : List Statement × List ℕ) : Type 0 where
   counted : length (read .0) ≡ n
   formed : all wellFormed (read .0) ≡ true
   declares : all (declaresStatement variables lengths) (read .0) ≡ true
+  written : all isByte bytes ≡ true → flat (map recordBytes (read .0)) ++ read .1 ≡ bytes
 
-statements-read : (n variables : ℕ) (lengths bytes : List ℕ) → Reads (Statements n variables lengths) (readStatements n variables lengths bytes)
+one-record : (size : ℕ) (bytes : List ℕ) (s : Statement) (others rest : List ℕ) → size ≤ length bytes → Said (take size bytes) s
+    → all isByte bytes ≡ true → others ++ rest ≡ drop size bytes → recordBytes s ++ others ++ rest ≡ size ∷ bytes
+one-record size bytes s others rest enough record-of are e =
+    ap₂ _∷_ (omega (arith, record-of .sized, length-take-le size bytes enough))
+    (append-assoc (statementBytes s) others rest
+    ∙ ap₂ _++_ (record-of .written (all-take isByte size bytes are)) e
+    ∙ take-append-drop size bytes)
+
+statements-read : (n variables : ℕ) (lengths bytes : List ℕ) → Reads (Statements n variables lengths bytes) (readStatements n variables lengths bytes)
 unfolding readStatements
-statements-read zero variables lengths bytes = record { counted = refl; formed = refl; declares = refl }
+statements-read zero variables lengths bytes = record { counted = refl; formed = refl; declares = refl; written = λ are. refl }
 statements-read (suc n) variables lengths [] = omega arith
 statements-read (suc n) variables lengths (size ∷ bytes) =
     rw readStatements-more
-    (demand-reads (Statements (suc n) variables lengths) (leb size (length bytes)) 4 _ (omega arith) λ enough.
-    then-reads (λ s. wellFormed s ≡ true) (Statements (suc n) variables lengths) (said (readRecord (take size bytes))) _ (record-read (take size bytes)) λ s well.
-    demand-reads (Statements (suc n) variables lengths) (declaresStatement variables lengths s) 5 _ (omega arith) λ names.
-    front-reads (Statements n variables lengths) (Statements (suc n) variables lengths) s (readStatements n variables lengths (drop size bytes))
+    (demand-reads (Statements (suc n) variables lengths (size ∷ bytes)) (leb size (length bytes)) 4 _ (omega arith) λ enough.
+    then-reads (Said (take size bytes)) (Statements (suc n) variables lengths (size ∷ bytes)) (said (readRecord (take size bytes))) _ (record-said (take size bytes)) λ s record-of.
+    demand-reads (Statements (suc n) variables lengths (size ∷ bytes)) (declaresStatement variables lengths s) 5 _ (omega arith) λ names.
+    front-reads (Statements n variables lengths (drop size bytes)) (Statements (suc n) variables lengths (size ∷ bytes)) s (readStatements n variables lengths (drop size bytes))
     (statements-read n variables lengths (drop size bytes)) λ read h.
-    record { counted = ap suc (h .counted); formed = and-both _ _ well (h .formed); declares = and-both _ _ names (h .declares) })
+    record {
+      counted = ap suc (h .counted);
+      formed = and-both _ _ (record-of .formed) (h .formed);
+      declares = and-both _ _ names (h .declares);
+      written = λ are.
+          one-record size bytes s _ (read .1) (leb-true size (length bytes) enough) record-of (all-others isByte size bytes are)
+          (h .written (all-drop isByte size bytes (all-others isByte size bytes are)));
+    })
 
 -- "A block has up to 32 variables, of which the first so many are live out; up to 8 arrays of 1 to 256 cells; and 0 to 64 statements."
 -- A statement has a known operation and as many operands as that takes, and names what is declared.
@@ -155,39 +108,91 @@ counts-fit variables live arrays count e =
       count = leb-true _ _ (and-right (leb variables 32 && leb live variables && leb arrays 8) _ e);
     }
 
-left-read : {A : Type 0} (P : A → Type 0) (read : A × List ℕ) → P (read .0) → Reads P (nothingLeft read)
-left-read P read p = demand-reads P (eqb (length (read .1)) 0) 4 (done (read .0)) (omega arith) λ none. p
+-- the bytes behind the stated length, and the whole bytes, are those of the block
+body-written : (bytes : List ℕ) (b : Block) → 7 ≤ length bytes
+    → getD bytes 3 0 ≡ b .variables → getD bytes 4 0 ≡ b .live → getD bytes 5 0 ≡ length (b .lengths) → getD bytes 6 0 ≡ length (b .statements)
+    → flat (map (bytesOf 2) (b .lengths)) ++ flat (map recordBytes (b .statements)) ≡ drop 7 bytes
+    → bodyBytes b ≡ drop 3 bytes
+body-written bytes b long v l a c rest =
+    rw (← v, ← l, ← a, ← c, rest, ← drop-drop 4 3 bytes, ← getD-drop 3 bytes 0 0, ← getD-drop 3 bytes 1 0, ← getD-drop 3 bytes 2 0, ← getD-drop 3 bytes 3 0)
+    (spelled-front 4 (drop 3 bytes) 0 (omega (arith, length-drop 3 bytes)))
 
-block-read : (bytes : List ℕ) → Reads Readable (readBlock bytes)
+block-written : (bytes : List ℕ) (b : Block) → 7 ≤ length bytes → getD bytes 0 0 ≡ 1 → number (take 2 (drop 1 bytes)) ≡ length bytes
+    → bodyBytes b ≡ drop 3 bytes → all isByte bytes ≡ true → blockBytes b ≡ bytes
+unfolding blockBytes
+block-written bytes b long version stated body are =
+    let sized : 3 + length (bodyBytes b) ≡ number (take 2 (drop 1 bytes)) = omega (arith, ap length body, length-drop 3 bytes) in
+    rw (sized, body, ← drop-drop 2 1 bytes)
+    (ap₂ _∷_ (sym version) (one-length (drop 1 bytes) (omega (arith, length-drop 1 bytes)) (all-drop isByte 1 bytes are))
+    ∙ spelled-front 1 bytes 0 (omega arith))
+
+-- what a block that is read comes to
+pub record Outcome (bytes : List ℕ) (b : Block) : Type 0 where
+  pub readable : Readable b
+  pub written : all isByte bytes ≡ true → blockBytes b ≡ bytes
+
+record Whole-read (statements : List Statement × List ℕ) (read : List Statement) : Type 0 where
+  same : read ≡ statements .0
+  nothing : statements .1 ≡ []
+
+left-read : (statements : List Statement × List ℕ) → Reads (Whole-read statements) (nothingLeft statements)
+left-read statements =
+    demand-reads (Whole-read statements) (eqb (length (statements .1)) 0) 4 (done (statements .0)) (omega arith) λ none.
+    record { same = refl; nothing = no-elements (statements .1) (eqb-true _ _ none) }
+
+parts-written : (bytes ls ss rest behind : List ℕ) → ls ++ rest ≡ bytes → ss ++ behind ≡ rest → behind ≡ [] → ls ++ ss ≡ bytes
+parts-written bytes ls ss rest behind e f nothing = rw (← e, ← f, nothing, append-nil ss)
+
+pub block-read : (bytes : List ℕ) → Reads (Outcome bytes) (readBlock bytes)
 unfolding readBlock
 block-read bytes =
-    demand-reads Readable (leb 7 (length bytes)) 2 _ (omega arith) λ long.
-    demand-reads Readable (eqb (getD bytes 0 0) 1) 1 _ (omega arith) λ version.
-    demand-reads Readable (eqb (number (take 2 (drop 1 bytes))) (length bytes)) 2 _ (omega arith) λ stated.
-    demand-reads Readable (countsFit (getD bytes 3 0) (getD bytes 4 0) (getD bytes 5 0) (getD bytes 6 0)) 3 _ (omega arith) λ fit.
-    then-reads (Lengths (getD bytes 5 0)) Readable (readLengths (getD bytes 5 0) (drop 7 bytes)) _ (lengths-read (getD bytes 5 0) (drop 7 bytes)) λ lengths l.
-    then-reads (Statements (getD bytes 6 0) (getD bytes 3 0) (lengths .0)) Readable
+    demand-reads (Outcome bytes) (leb 7 (length bytes)) 2 _ (omega arith) λ long.
+    demand-reads (Outcome bytes) (eqb (getD bytes 0 0) 1) 1 _ (omega arith) λ version.
+    demand-reads (Outcome bytes) (eqb (number (take 2 (drop 1 bytes))) (length bytes)) 2 _ (omega arith) λ stated.
+    demand-reads (Outcome bytes) (countsFit (getD bytes 3 0) (getD bytes 4 0) (getD bytes 5 0) (getD bytes 6 0)) 3 _ (omega arith) λ fit.
+    then-reads (Lengths (getD bytes 5 0) (drop 7 bytes)) (Outcome bytes) (readLengths (getD bytes 5 0) (drop 7 bytes)) _ (lengths-read (getD bytes 5 0) (drop 7 bytes)) λ lengths l.
+    then-reads (Statements (getD bytes 6 0) (getD bytes 3 0) (lengths .0) (lengths .1)) (Outcome bytes)
     (readStatements (getD bytes 6 0) (getD bytes 3 0) (lengths .0) (lengths .1)) _
     (statements-read (getD bytes 6 0) (getD bytes 3 0) (lengths .0) (lengths .1)) λ statements s.
-    then-reads (λ read. (read ≡ statements .0)) Readable (nothingLeft statements) _ (left-read (λ read. (read ≡ statements .0)) statements refl) λ read e.
+    then-reads (Whole-read statements) (Outcome bytes) (nothingLeft statements) _ (left-read statements) λ read w.
     let c = counts-fit (getD bytes 3 0) (getD bytes 4 0) (getD bytes 5 0) (getD bytes 6 0) fit in
+    let b : Block = record { variables = getD bytes 3 0; live = getD bytes 4 0; lengths = lengths .0; statements = read } in
+    let counted : length read ≡ getD bytes 6 0 = ap length (w .same) ∙ s .counted in
+    let long′ : 7 ≤ length bytes = leb-true 7 (length bytes) long in
     record {
-      variables = c .variables;
-      live = c .live;
-      arrays = omega (arith, l .counted, c .arrays);
-      lengths = l .fit;
-      count = omega (arith, ap length e, s .counted, c .count);
-      formed = ap (all wellFormed) e ∙ s .formed;
-      declares = ap (all (declaresStatement (getD bytes 3 0) (lengths .0))) e ∙ s .declares;
+      readable =
+          record {
+            variables = c .variables;
+            live = c .live;
+            arrays = omega (arith, l .counted, c .arrays);
+            lengths = l .fit;
+            count = omega (arith, counted, c .count);
+            formed = ap (all wellFormed) (w .same) ∙ s .formed;
+            declares = ap (all (declaresStatement (getD bytes 3 0) (lengths .0))) (w .same) ∙ s .declares;
+          };
+      written = λ are.
+          let are-lengths = l .written (all-drop isByte 7 bytes are) in
+          let are-statements = s .written (all-behind isByte (flat (map (bytesOf 2) (lengths .0))) (lengths .1) (rw are-lengths (all-drop isByte 7 bytes are))) in
+          block-written bytes b long′ (eqb-true _ _ version) (eqb-true _ _ stated)
+          (body-written bytes b long′ refl refl (sym (l .counted)) (sym counted)
+          (parts-written (drop 7 bytes) (flat (map (bytesOf 2) (lengths .0))) (flat (map recordBytes read)) (lengths .1) (statements .1) are-lengths (rw (w .same) are-statements) (w .nothing)))
+          are;
     }
 
 -- A refusal has one of the numbers 1 to 5: no refusal is 0.
 pub refused-number : (bytes : List ℕ) (n : ℕ) → readBlock bytes ≡ refused n → ReaderNumber n
-refused-number bytes n e = subst (Reads Readable) e (block-read bytes)
+refused-number bytes n e = subst (Reads (Outcome bytes)) e (block-read bytes)
+
+block-outcome : (bytes : List ℕ) (b : Block) → readBlock bytes ≡ done b → Outcome bytes b
+block-outcome bytes b e = subst (Reads (Outcome bytes)) e (block-read bytes)
 
 -- A block that reads is within all limits.
 pub done-readable : (bytes : List ℕ) (b : Block) → readBlock bytes ≡ done b → Readable b
-done-readable bytes b e = subst (Reads Readable) e (block-read bytes)
+done-readable bytes b e = block-outcome bytes b e .readable
+
+-- Its bytes are those from which it was read.
+pub done-written : (bytes : List ℕ) (b : Block) → all isByte bytes ≡ true → readBlock bytes ≡ done b → blockBytes b ≡ bytes
+done-written bytes b are e = block-outcome bytes b e .written are
 
 -- So each array has 1 to 256 cells.
 pub length-fits : (n : ℕ) → lengthFits n ≡ true → (1 ≤ n) × (n ≤ 256)
