@@ -1,12 +1,12 @@
 -- Laws of lists and their parts: what holds of every element, one element of them, and lists that are joined end to end.
 use mathlib.Core.Path.{_≡_, refl, sym, ap, _∙_}
 use mathlib.Core.Bool.{Bool, true, false}
-use mathlib.Core.List.{List, [], _∷_, _++_, append-nil}
-use Prim.Native.Nat.{ℕ, zero, suc, _≤_, _<_}
+use mathlib.Core.List.{List, [], _∷_, _++_, map, append-nil}
+use Prim.Native.Nat.{ℕ, zero, suc, _*_, _≤_, _<_}
 use native.Mathlib.Omega.{arith}
 use lib.ListN.{length, getD, take, drop, length-append}
 use Rattle.basics.specs.Choice.{pick}
-use Rattle.basics.specs.Lists.{all}
+use Rattle.basics.specs.Lists.{all, flat}
 use Rattle.basics.proofs.Tests.{and-left, and-right, and-both}
 
 module _ {ℓ} {A : Type ℓ} (test : A → Bool) where
@@ -70,3 +70,8 @@ module _ {ℓ} {A : Type ℓ} where
   spelled-front zero xs d h = refl
   spelled-front (suc n) [] d h = absurd (omega arith)
   spelled-front (suc n) (x ∷ xs) d h = ap {B = List A} (λ rest. x ∷ rest) (spelled-front n xs d (omega arith))
+
+-- lists joined end to end, each of at most n elements
+pub flat-length {ℓ κ} : {A : Type ℓ} {B : Type κ} (f : A → List B) (n : ℕ) → ((x : A) → length (f x) ≤ n) → (xs : List A) → length (flat (map f xs)) ≤ n * length xs
+flat-length f n h [] = omega arith
+flat-length f n h (x ∷ xs) = omega (arith, length-append (f x) (flat (map f xs)), h x, flat-length f n h xs)

@@ -3,3 +3,4 @@ pub mod Operands
 pub mod Reading
 pub mod Records
 pub mod Readable
+pub mod BlockRoundTrip
