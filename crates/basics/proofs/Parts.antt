@@ -71,6 +71,11 @@ module _ {ℓ} {A : Type ℓ} where
   spelled-front (suc n) [] d h = absurd (omega arith)
   spelled-front (suc n) (x ∷ xs) d h = ap {B = List A} (λ rest. x ∷ rest) (spelled-front n xs d (omega arith))
 
+  pub spelled-whole : (n : ℕ) (xs : List A) (d : A) → length xs ≡ n → spelled n (λ i. getD xs i d) ≡ xs
+  spelled-whole zero xs d e = sym (no-elements xs e)
+  spelled-whole (suc n) [] d e = absurd (omega arith)
+  spelled-whole (suc n) (x ∷ xs) d e = ap {B = List A} (λ rest. x ∷ rest) (spelled-whole n xs d (omega arith))
+
 -- lists joined end to end, each of at most n elements
 pub flat-length {ℓ κ} : {A : Type ℓ} {B : Type κ} (f : A → List B) (n : ℕ) → ((x : A) → length (f x) ≤ n) → (xs : List A) → length (flat (map f xs)) ≤ n * length xs
 flat-length f n h [] = omega arith

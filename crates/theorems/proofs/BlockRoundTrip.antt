@@ -21,6 +21,7 @@ use Rattle.meaning.specs.Block.{Block, declared, declaresStatement}
 use Rattle.meaning.specs.Format.{number, bytesOf, countsFit, lengthFits, wellFormed, statementBytes, statementWidth, readRecord, inFront, readLengths, readStatements, readBlock, inMemory, recordBytes, bodyBytes, blockBytes, writeBlock}
 use Rattle.meaning.specs.Calls.{inRoom, BlockWritten, blockRead, blockWritten, readBlockCall, writeBlockCall}
 use Rattle.theorems.proofs.Bytes.{isByte, number-bytes-fits}
+use Rattle.theorems.proofs.Header.{header-stated}
 use Rattle.theorems.proofs.Reading.{Reads, demand-reads, readLengths-more, readStatements-more}
 use Rattle.theorems.proofs.Records.{constantsFit, statement-length, statement-width, record-read}
 use Rattle.theorems.proofs.Readable.{Readable, Counts, counts-fit, length-fits, refused-number, done-readable, done-written, declared-in-memory}
@@ -102,9 +103,7 @@ unfolding readBlock blockBytes
 block-back b h fit =
     let body = bodyBytes b in
     let parts = flat (map (bytesOf 2) (b .lengths)) ++ flat (map recordBytes (b .statements)) in
-    let stated : number (bytesOf 2 (3 + length body)) ≡ suc (suc (suc (length body))) =
-    number-bytes-fits 2 (3 + length body) (omega (arith, body-length b h)) ∙ omega arith
-    in
+    let stated = header-stated (length body) (omega (arith, body-length b h)) in
     let statements : readStatements (length (b .statements)) (b .variables) (b .lengths) (flat (map recordBytes (b .statements))) ≡ done (b .statements, []) =
     ap (readStatements (length (b .statements)) (b .variables) (b .lengths)) (sym (append-nil (flat (map recordBytes (b .statements)))))
     ∙ statements-back (b .variables) (b .lengths) (b .statements) [] (h .formed) fit (h .declares)

@@ -1,6 +1,9 @@
 pub mod Bytes
+pub mod Header
 pub mod Operands
 pub mod Reading
 pub mod Records
 pub mod Readable
 pub mod BlockRoundTrip
+pub mod Instructions
+pub mod ListRoundTrip

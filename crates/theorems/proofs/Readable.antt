@@ -2,7 +2,7 @@
 use mathlib.Core.Path.{_≡_, refl, sym, ap, ap₂, subst, _∙_}
 use mathlib.Core.Bool.{true, _&&_}
 use mathlib.Core.List.{List, [], _∷_, _++_, map, append-assoc, append-nil}
-use Prim.Native.Nat.{ℕ, zero, suc, _+_, _≤_, _<_}
+use Prim.Native.Nat.{ℕ, zero, suc, _≤_, _<_}
 use native.Mathlib.Omega.{arith}
 use lib.Dec.{eqb, leb}
 use lib.ListN.{length, getD, take, drop, length-drop, take-append-drop}
@@ -15,7 +15,8 @@ use Rattle.meaning.specs.declared.Statement.{Statement}
 use Rattle.meaning.specs.Numbers.{refused, done}
 use Rattle.meaning.specs.Block.{Block, declared, declaresStatement}
 use Rattle.meaning.specs.Format.{number, bytesOf, countsFit, lengthFits, wellFormed, statementBytes, readRecord, readLengths, readStatements, nothingLeft, readBlock, inMemory, recordBytes, bodyBytes, blockBytes}
-use Rattle.theorems.proofs.Bytes.{isByte, bytes-number}
+use Rattle.theorems.proofs.Bytes.{isByte}
+use Rattle.theorems.proofs.Header.{two-bytes, header-written}
 use Rattle.theorems.proofs.Reading.{ReaderNumber, Reads, demand-reads, then-reads, front-reads, readLengths-more, said, readStatements-more}
 use Rattle.theorems.proofs.Records.{Said, record-said}
 
@@ -24,11 +25,6 @@ record Lengths (n : ℕ) (bytes : List ℕ) (read : List ℕ × List ℕ) : Type
   counted : length (read .0) ≡ n
   fit : all lengthFits (read .0) ≡ true
   written : all isByte bytes ≡ true → flat (map (bytesOf 2) (read .0)) ++ read .1 ≡ bytes
-
-one-length : (bytes : List ℕ) → 2 ≤ length bytes → all isByte bytes ≡ true → bytesOf 2 (number (take 2 bytes)) ++ drop 2 bytes ≡ bytes
-one-length bytes enough are =
-    ap (λ (front : List ℕ). front ++ drop 2 bytes) (bytes-number 2 (take 2 bytes) (length-take-le 2 bytes enough) (all-take isByte 2 bytes are))
-    ∙ take-append-drop 2 bytes
 
 lengths-read : (n : ℕ) (bytes : List ℕ) → Reads (Lengths n bytes) (readLengths n bytes)
 unfolding readLengths
@@ -43,7 +39,7 @@ lengths-read (suc n) bytes =
       fit = and-both _ _ fits (h .fit);
       written = λ are.
           ap (λ (rest : List ℕ). bytesOf 2 (number (take 2 bytes)) ++ rest) (h .written (all-drop isByte 2 bytes are))
-          ∙ one-length bytes (leb-true 2 (length bytes) enough) are;
+          ∙ two-bytes bytes (leb-true 2 (length bytes) enough) are;
     })
 
 -- what the statements come to
@@ -120,11 +116,7 @@ body-written bytes b long v l a c rest =
 block-written : (bytes : List ℕ) (b : Block) → 7 ≤ length bytes → getD bytes 0 0 ≡ 1 → number (take 2 (drop 1 bytes)) ≡ length bytes
     → bodyBytes b ≡ drop 3 bytes → all isByte bytes ≡ true → blockBytes b ≡ bytes
 unfolding blockBytes
-block-written bytes b long version stated body are =
-    let sized : 3 + length (bodyBytes b) ≡ number (take 2 (drop 1 bytes)) = omega (arith, ap length body, length-drop 3 bytes) in
-    rw (sized, body, ← drop-drop 2 1 bytes)
-    (ap₂ _∷_ (sym version) (one-length (drop 1 bytes) (omega (arith, length-drop 1 bytes)) (all-drop isByte 1 bytes are))
-    ∙ spelled-front 1 bytes 0 (omega arith))
+block-written bytes b long version stated body are = header-written bytes (bodyBytes b) (omega arith) version stated body are
 
 -- what a block that is read comes to
 pub record Outcome (bytes : List ℕ) (b : Block) : Type 0 where
