@@ -7,3 +7,4 @@ pub mod Readable
 pub mod BlockRoundTrip
 pub mod Instructions
 pub mod ListRoundTrip
+pub mod Determined
