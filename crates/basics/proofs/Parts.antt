@@ -41,6 +41,10 @@ module _ {ℓ} {A : Type ℓ} (test : A → Bool) where
   all-append [] ys e f = f
   all-append (x ∷ xs) ys e f = and-both (test x) (all test (xs ++ ys)) (all-first x xs e) (all-append xs ys (all-others x xs e) f)
 
+  pub all-ahead : (xs ys : List A) → all test (xs ++ ys) ≡ true → all test xs ≡ true
+  all-ahead [] ys e = refl
+  all-ahead (x ∷ xs) ys e = and-both (test x) (all test xs) (all-first x (xs ++ ys) e) (all-ahead xs ys (all-others x (xs ++ ys) e))
+
   pub all-behind : (xs ys : List A) → all test (xs ++ ys) ≡ true → all test ys ≡ true
   all-behind [] ys e = e
   all-behind (x ∷ xs) ys e = all-behind xs ys (all-others x (xs ++ ys) e)
@@ -80,3 +84,10 @@ module _ {ℓ} {A : Type ℓ} where
 pub flat-length {ℓ κ} : {A : Type ℓ} {B : Type κ} (f : A → List B) (n : ℕ) → ((x : A) → length (f x) ≤ n) → (xs : List A) → length (flat (map f xs)) ≤ n * length xs
 flat-length f n h [] = omega arith
 flat-length f n h (x ∷ xs) = omega (arith, length-append (f x) (flat (map f xs)), h x, flat-length f n h xs)
+
+-- what every element of each of them passes, every element of all of them passes
+pub all-flat {ℓ κ} : {A : Type ℓ} {B : Type κ} (given : A → Bool) (test : B → Bool) (f : A → List B)
+    → ((x : A) → given x ≡ true → all test (f x) ≡ true) → (xs : List A) → all given xs ≡ true → all test (flat (map f xs)) ≡ true
+all-flat given test f h [] e = refl
+all-flat given test f h (x ∷ xs) e =
+    all-append test (f x) (flat (map f xs)) (h x (all-first given x xs e)) (all-flat given test f h xs (all-others given x xs e))

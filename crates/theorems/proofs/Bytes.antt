@@ -7,16 +7,20 @@ use native.Mathlib.Nat.{zero-add, add-zero, mul-le-mul-right, pow-succ', mod-lt,
 use native.Mathlib.Omega.{arith}
 use lib.Arith.{mod-mul}
 use lib.Dec.{ltb}
-use lib.ListN.{length}
+use lib.ListN.{length, getD}
 use borrow.Author.Tests.{ltb-true, lt-ltb}
 use Rattle.basics.specs.Lists.{all, each}
 use Rattle.basics.proofs.Tests.{and-both}
-use Rattle.basics.proofs.Parts.{all-first, all-others}
+use Rattle.basics.proofs.Parts.{all-first, all-others, all-by-number}
 use Rattle.meaning.specs.Format.{number, bytesOf}
 
 -- a byte is below 256
 abbrev pub isByte : ℕ → Bool
 isByte byte = ltb byte 256
+
+-- bytes are bytes where each is one by its number
+pub bytes-by-number : (bytes : List ℕ) → ((i : ℕ) → i < length bytes → getD bytes i 0 < 256) → all isByte bytes ≡ true
+bytes-by-number bytes h = all-by-number isByte bytes 0 λ i below. lt-ltb (getD bytes i 0) 256 (h i below)
 
 -- one more byte behind a number
 abbrev behind : ℕ → ℕ → ℕ

@@ -8,3 +8,4 @@ pub mod BlockRoundTrip
 pub mod Instructions
 pub mod ListRoundTrip
 pub mod Determined
+pub mod AreBytes

@@ -61,7 +61,7 @@ records-back (i ∷ list) fit =
       records-back list (all-others instructionFits i list fit),
     )
 
--- "whole length": no list that fits has more than 3,844 bytes, so two bytes state it
+-- the records are short
 records-length : (list : List Instruction) → all instructionFits list ≡ true → length (recordsBytes list) ≤ 24 * length list
 records-length [] fit = omega arith
 records-length (i ∷ list) fit =
@@ -71,10 +71,6 @@ records-length (i ∷ list) fit =
       instruction-length i (all-first instructionFits i list fit),
       records-length list (all-others instructionFits i list fit),
     )
-
-pub list-length : (list : List Instruction) → ListFits list → length (listBytes list) ≤ 3844
-unfolding listBytes
-list-length list h = omega (arith, records-length list (h .fit), h .count)
 
 -- the tests of the front of a list
 abbrev frontFits : ℕ → ℕ → ℕ → ℕ → Bool
@@ -105,17 +101,6 @@ list-stated : (list : List Instruction) → ListFits list → number (bytesOf 2 
 list-stated list h =
     ap (λ (n : ℕ). number (bytesOf 2 n)) (omega arith)
     ∙ header-stated (suc (length (recordsBytes list))) (omega (arith, records-length list (h .fit), h .count))
-
--- Every list within the limits is read back from its bytes.
-pub list-back : (list : List Instruction) → ListFits list → readList (listBytes list) ≡ some list
-unfolding readList listBytes
-list-back list h =
-    let size = suc (suc (suc (suc (length (recordsBytes list))))) in
-    let stated = number (bytesOf 2 (4 + length (recordsBytes list))) in
-    elim-pick (frontFits size 1 stated (length list)) (readRecords (length list) (recordsBytes list))
-    ∙ ap (λ (test : Bool). pick test (readRecords (length list) (recordsBytes list)) none)
-    (front-fits size 1 stated (length list) (record { long = omega arith; one = refl; whole = list-stated list h; few = h .count }))
-    ∙ records-back list (h .fit)
 
 -- what records come to
 record Listed (n : ℕ) (bytes : List ℕ) (list : List Instruction) : Type 0 where
@@ -189,6 +174,22 @@ list-told bytes are =
     (pick-holds (Outcome bytes) test (readRecords (field 3 bytes) (drop 4 bytes)) none
     (λ passed. list-outcome bytes are (front-of _ _ _ _ passed) (readRecords (field 3 bytes) (drop 4 bytes)) (records-told (field 3 bytes) (drop 4 bytes) (all-drop isByte 4 bytes are)))
     (λ failed. tt))
+
+-- A list within the limits has at most 3,844 bytes, so its length fits the two bytes that state it.
+pub list-length : (list : List Instruction) → ListFits list → length (listBytes list) ≤ 3844
+unfolding listBytes
+list-length list h = omega (arith, records-length list (h .fit), h .count)
+
+-- Every list within the limits is read back from its bytes.
+pub list-back : (list : List Instruction) → ListFits list → readList (listBytes list) ≡ some list
+unfolding readList listBytes
+list-back list h =
+    let size = suc (suc (suc (suc (length (recordsBytes list))))) in
+    let stated = number (bytesOf 2 (4 + length (recordsBytes list))) in
+    elim-pick (frontFits size 1 stated (length list)) (readRecords (length list) (recordsBytes list))
+    ∙ ap (λ (test : Bool). pick test (readRecords (length list) (recordsBytes list)) none)
+    (front-fits size 1 stated (length list) (record { long = omega arith; one = refl; whole = list-stated list h; few = h .count }))
+    ∙ records-back list (h .fit)
 
 -- A list that is read is within the limits, and is written as the bytes from which it was read.
 pub list-read : (bytes : List ℕ) (list : List Instruction) → all isByte bytes ≡ true → readList bytes ≡ some list → ListRead bytes list

@@ -18,7 +18,7 @@ use Rattle.meaning.specs.Format.{number, bytesOf, countsFit, lengthFits, wellFo
 use Rattle.theorems.proofs.Bytes.{isByte}
 use Rattle.theorems.proofs.Header.{two-bytes, header-written}
 use Rattle.theorems.proofs.Reading.{ReaderNumber, Reads, demand-reads, then-reads, front-reads, readLengths-more, said, readStatements-more}
-use Rattle.theorems.proofs.Records.{Said, record-said}
+use Rattle.theorems.proofs.Records.{constantsFit, Said, record-said}
 
 -- what the array lengths come to
 record Lengths (n : ℕ) (bytes : List ℕ) (read : List ℕ × List ℕ) : Type 0 where
@@ -47,6 +47,7 @@ record Statements (n variables : ℕ) (lengths bytes : List ℕ) (read : List St
   counted : length (read .0) ≡ n
   formed : all wellFormed (read .0) ≡ true
   declares : all (declaresStatement variables lengths) (read .0) ≡ true
+  fit : all isByte bytes ≡ true → all constantsFit (read .0) ≡ true
   written : all isByte bytes ≡ true → flat (map recordBytes (read .0)) ++ read .1 ≡ bytes
 
 one-record : (size : ℕ) (bytes : List ℕ) (s : Statement) (others rest : List ℕ) → size ≤ length bytes → Said (take size bytes) s
@@ -59,7 +60,7 @@ one-record size bytes s others rest enough record-of are e =
 
 statements-read : (n variables : ℕ) (lengths bytes : List ℕ) → Reads (Statements n variables lengths bytes) (readStatements n variables lengths bytes)
 unfolding readStatements
-statements-read zero variables lengths bytes = record { counted = refl; formed = refl; declares = refl; written = λ are. refl }
+statements-read zero variables lengths bytes = record { counted = refl; formed = refl; declares = refl; fit = λ are. refl; written = λ are. refl }
 statements-read (suc n) variables lengths [] = omega arith
 statements-read (suc n) variables lengths (size ∷ bytes) =
     rw readStatements-more
@@ -72,6 +73,9 @@ statements-read (suc n) variables lengths (size ∷ bytes) =
       counted = ap suc (h .counted);
       formed = and-both _ _ (record-of .formed) (h .formed);
       declares = and-both _ _ names (h .declares);
+      fit = λ are.
+          let are-behind = all-others isByte size bytes are in
+          and-both _ _ (record-of .fit (all-take isByte size bytes are-behind)) (h .fit (all-drop isByte size bytes are-behind));
       written = λ are.
           one-record size bytes s _ (read .1) (leb-true size (length bytes) enough) record-of (all-others isByte size bytes are)
           (h .written (all-drop isByte size bytes (all-others isByte size bytes are)));
@@ -104,25 +108,14 @@ counts-fit variables live arrays count e =
       count = leb-true _ _ (and-right (leb variables 32 && leb live variables && leb arrays 8) _ e);
     }
 
--- the bytes behind the stated length, and the whole bytes, are those of the block
-body-written : (bytes : List ℕ) (b : Block) → 7 ≤ length bytes
-    → getD bytes 3 0 ≡ b .variables → getD bytes 4 0 ≡ b .live → getD bytes 5 0 ≡ length (b .lengths) → getD bytes 6 0 ≡ length (b .statements)
-    → flat (map (bytesOf 2) (b .lengths)) ++ flat (map recordBytes (b .statements)) ≡ drop 7 bytes
-    → bodyBytes b ≡ drop 3 bytes
-body-written bytes b long v l a c rest =
-    rw (← v, ← l, ← a, ← c, rest, ← drop-drop 4 3 bytes, ← getD-drop 3 bytes 0 0, ← getD-drop 3 bytes 1 0, ← getD-drop 3 bytes 2 0, ← getD-drop 3 bytes 3 0)
-    (spelled-front 4 (drop 3 bytes) 0 (omega (arith, length-drop 3 bytes)))
+-- what the front of the bytes comes to
+record Front (bytes : List ℕ) : Type 0 where
+  long : 7 ≤ length bytes
+  version : getD bytes 0 0 ≡ 1
+  stated : number (take 2 (drop 1 bytes)) ≡ length bytes
+  counts : Counts (getD bytes 3 0) (getD bytes 4 0) (getD bytes 5 0) (getD bytes 6 0)
 
-block-written : (bytes : List ℕ) (b : Block) → 7 ≤ length bytes → getD bytes 0 0 ≡ 1 → number (take 2 (drop 1 bytes)) ≡ length bytes
-    → bodyBytes b ≡ drop 3 bytes → all isByte bytes ≡ true → blockBytes b ≡ bytes
-unfolding blockBytes
-block-written bytes b long version stated body are = header-written bytes (bodyBytes b) (omega arith) version stated body are
-
--- what a block that is read comes to
-pub record Outcome (bytes : List ℕ) (b : Block) : Type 0 where
-  pub readable : Readable b
-  pub written : all isByte bytes ≡ true → blockBytes b ≡ bytes
-
+-- "bytes left over (4)": there are none
 record Whole-read (statements : List Statement × List ℕ) (read : List Statement) : Type 0 where
   same : read ≡ statements .0
   nothing : statements .1 ≡ []
@@ -132,10 +125,74 @@ left-read statements =
     demand-reads (Whole-read statements) (eqb (length (statements .1)) 0) 4 (done (statements .0)) (omega arith) λ none.
     record { same = refl; nothing = no-elements (statements .1) (eqb-true _ _ none) }
 
+-- what a block that is read comes to
+pub record Outcome (bytes : List ℕ) (b : Block) : Type 0 where
+  pub readable : Readable b
+  pub fit : all isByte bytes ≡ true → all constantsFit (b .statements) ≡ true
+  pub written : all isByte bytes ≡ true → blockBytes b ≡ bytes
+
+-- the bytes behind the stated length are those of the block
+body-written : (bytes : List ℕ) (b : Block) → 7 ≤ length bytes
+    → getD bytes 3 0 ≡ b .variables → getD bytes 4 0 ≡ b .live → getD bytes 5 0 ≡ length (b .lengths) → getD bytes 6 0 ≡ length (b .statements)
+    → flat (map (bytesOf 2) (b .lengths)) ++ flat (map recordBytes (b .statements)) ≡ drop 7 bytes
+    → bodyBytes b ≡ drop 3 bytes
+body-written bytes b long v l a c rest =
+    rw (← v, ← l, ← a, ← c, rest, ← drop-drop 4 3 bytes, ← getD-drop 3 bytes 0 0, ← getD-drop 3 bytes 1 0, ← getD-drop 3 bytes 2 0, ← getD-drop 3 bytes 3 0)
+    (spelled-front 4 (drop 3 bytes) 0 (omega (arith, length-drop 3 bytes)))
+
 parts-written : (bytes ls ss rest behind : List ℕ) → ls ++ rest ≡ bytes → ss ++ behind ≡ rest → behind ≡ [] → ls ++ ss ≡ bytes
 parts-written bytes ls ss rest behind e f nothing = rw (← e, ← f, nothing, append-nil ss)
 
-pub block-read : (bytes : List ℕ) → Reads (Outcome bytes) (readBlock bytes)
+-- the parts of what was read, put together
+module _ (bytes : List ℕ) (front : Front bytes)
+    (lengths : List ℕ × List ℕ) (l : Lengths (getD bytes 5 0) (drop 7 bytes) lengths)
+    (statements : List Statement × List ℕ) (s : Statements (getD bytes 6 0) (getD bytes 3 0) (lengths .0) (lengths .1) statements)
+    (read : List Statement) (w : Whole-read statements read) where
+  abbrev block : Block
+  block = record { variables = getD bytes 3 0; live = getD bytes 4 0; lengths = lengths .0; statements = read }
+
+  counted : length read ≡ getD bytes 6 0
+  counted = ap length (w .same) ∙ s .counted
+
+  block-readable : Readable block
+  block-readable =
+      record {
+        variables = front .counts .variables;
+        live = front .counts .live;
+        arrays = omega (arith, l .counted, front .counts .arrays);
+        lengths = l .fit;
+        count = omega (arith, counted, front .counts .count);
+        formed = ap (all wellFormed) (w .same) ∙ s .formed;
+        declares = ap (all (declaresStatement (getD bytes 3 0) (lengths .0))) (w .same) ∙ s .declares;
+      }
+
+  lengths-written : all isByte bytes ≡ true → flat (map (bytesOf 2) (lengths .0)) ++ lengths .1 ≡ drop 7 bytes
+  lengths-written are = l .written (all-drop isByte 7 bytes are)
+
+  behind-lengths : all isByte bytes ≡ true → all isByte (lengths .1) ≡ true
+  behind-lengths are = all-behind isByte (flat (map (bytesOf 2) (lengths .0))) (lengths .1) (rw (lengths-written are) (all-drop isByte 7 bytes are))
+
+  statements-written : all isByte bytes ≡ true → flat (map recordBytes read) ++ statements .1 ≡ lengths .1
+  statements-written are = rw (w .same) (s .written (behind-lengths are))
+
+  block-written : all isByte bytes ≡ true → blockBytes block ≡ bytes
+  unfolding blockBytes
+  block-written are =
+      header-written bytes (bodyBytes block) (omega (arith, front .long)) (front .version) (front .stated)
+      (body-written bytes block (front .long) refl refl (sym (l .counted)) (sym counted)
+      (parts-written (drop 7 bytes) (flat (map (bytesOf 2) (lengths .0))) (flat (map recordBytes read)) (lengths .1) (statements .1) (lengths-written are)
+      (statements-written are) (w .nothing)))
+      are
+
+  block-outcome : Outcome bytes block
+  block-outcome =
+      record {
+        readable = block-readable;
+        fit = λ are. ap (all constantsFit) (w .same) ∙ s .fit (behind-lengths are);
+        written = block-written;
+      }
+
+block-read : (bytes : List ℕ) → Reads (Outcome bytes) (readBlock bytes)
 unfolding readBlock
 block-read bytes =
     demand-reads (Outcome bytes) (leb 7 (length bytes)) 2 _ (omega arith) λ long.
@@ -147,44 +204,33 @@ block-read bytes =
     (readStatements (getD bytes 6 0) (getD bytes 3 0) (lengths .0) (lengths .1)) _
     (statements-read (getD bytes 6 0) (getD bytes 3 0) (lengths .0) (lengths .1)) λ statements s.
     then-reads (Whole-read statements) (Outcome bytes) (nothingLeft statements) _ (left-read statements) λ read w.
-    let c = counts-fit (getD bytes 3 0) (getD bytes 4 0) (getD bytes 5 0) (getD bytes 6 0) fit in
-    let b : Block = record { variables = getD bytes 3 0; live = getD bytes 4 0; lengths = lengths .0; statements = read } in
-    let counted : length read ≡ getD bytes 6 0 = ap length (w .same) ∙ s .counted in
-    let long′ : 7 ≤ length bytes = leb-true 7 (length bytes) long in
-    record {
-      readable =
-          record {
-            variables = c .variables;
-            live = c .live;
-            arrays = omega (arith, l .counted, c .arrays);
-            lengths = l .fit;
-            count = omega (arith, counted, c .count);
-            formed = ap (all wellFormed) (w .same) ∙ s .formed;
-            declares = ap (all (declaresStatement (getD bytes 3 0) (lengths .0))) (w .same) ∙ s .declares;
-          };
-      written = λ are.
-          let are-lengths = l .written (all-drop isByte 7 bytes are) in
-          let are-statements = s .written (all-behind isByte (flat (map (bytesOf 2) (lengths .0))) (lengths .1) (rw are-lengths (all-drop isByte 7 bytes are))) in
-          block-written bytes b long′ (eqb-true _ _ version) (eqb-true _ _ stated)
-          (body-written bytes b long′ refl refl (sym (l .counted)) (sym counted)
-          (parts-written (drop 7 bytes) (flat (map (bytesOf 2) (lengths .0))) (flat (map recordBytes read)) (lengths .1) (statements .1) are-lengths (rw (w .same) are-statements) (w .nothing)))
-          are;
-    }
+    block-outcome bytes
+    (record {
+      long = leb-true 7 (length bytes) long;
+      version = eqb-true _ _ version;
+      stated = eqb-true _ _ stated;
+      counts = counts-fit (getD bytes 3 0) (getD bytes 4 0) (getD bytes 5 0) (getD bytes 6 0) fit;
+    })
+    lengths l statements s read w
 
 -- A refusal has one of the numbers 1 to 5: no refusal is 0.
 pub refused-number : (bytes : List ℕ) (n : ℕ) → readBlock bytes ≡ refused n → ReaderNumber n
 refused-number bytes n e = subst (Reads (Outcome bytes)) e (block-read bytes)
 
-block-outcome : (bytes : List ℕ) (b : Block) → readBlock bytes ≡ done b → Outcome bytes b
-block-outcome bytes b e = subst (Reads (Outcome bytes)) e (block-read bytes)
+done-outcome : (bytes : List ℕ) (b : Block) → readBlock bytes ≡ done b → Outcome bytes b
+done-outcome bytes b e = subst (Reads (Outcome bytes)) e (block-read bytes)
 
 -- A block that reads is within all limits.
 pub done-readable : (bytes : List ℕ) (b : Block) → readBlock bytes ≡ done b → Readable b
-done-readable bytes b e = block-outcome bytes b e .readable
+done-readable bytes b e = done-outcome bytes b e .readable
 
 -- Its bytes are those from which it was read.
 pub done-written : (bytes : List ℕ) (b : Block) → all isByte bytes ≡ true → readBlock bytes ≡ done b → blockBytes b ≡ bytes
-done-written bytes b are e = block-outcome bytes b e .written are
+done-written bytes b are e = done-outcome bytes b e .written are
+
+-- Its constants are below 2 ^ 32.
+pub done-fits : (bytes : List ℕ) (b : Block) → all isByte bytes ≡ true → readBlock bytes ≡ done b → all constantsFit (b .statements) ≡ true
+done-fits bytes b are e = done-outcome bytes b e .fit are
 
 -- So each array has 1 to 256 cells.
 pub length-fits : (n : ℕ) → lengthFits n ≡ true → (1 ≤ n) × (n ≤ 256)

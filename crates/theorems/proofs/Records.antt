@@ -22,7 +22,7 @@ use Rattle.meaning.specs.declared.Record.the-variants.{Broken, Whole}
 use Rattle.meaning.specs.Block.{isCopy}
 use Rattle.meaning.specs.Format.{placeBytes, operandBytes, placeWidth, operandWidth, readOperand, isOperand, statementBytes, statementWidth, wellFormed, readLeft, readRight, readStatement, whole, readBehind, readRecord}
 use Rattle.theorems.proofs.Bytes.{isByte}
-use Rattle.theorems.proofs.Operands.{constantFits, place-length, operand-length, place-width, operand-width, operand-written, operand-read}
+use Rattle.theorems.proofs.Operands.{constantFits, place-length, operand-length, place-width, operand-width, operand-fits, operand-written, operand-read}
 use Rattle.theorems.proofs.Reading.{Reads, said}
 
 -- both of a statement's constants, where it has them, are below 2 ^ 32
@@ -85,9 +85,20 @@ read-written bytes p are found sized =
     ∙ spelled-front 1 bytes 0 (omega (arith, sized)))
     (omega (arith, sized, statement-length (readStatement bytes p)))
 
--- What a record that is whole says: a statement that is well formed, and is written as the record's bytes.
+right-fits : (bytes : List ℕ) (p : Place) (l : Operand) → all isByte bytes ≡ true → constantFits (readRight bytes p l) ≡ true
+right-fits bytes p l are =
+    let width = 1 + placeWidth p + operandWidth l in
+    pick-holds (λ (r : Operand). constantFits r ≡ true) (eqb (getD bytes 0 0) 0) Nothing (readOperand (drop width bytes)) (λ copy. refl)
+    (λ other. operand-fits (drop width bytes) (all-drop isByte width bytes are))
+
+read-fits : (bytes : List ℕ) (p : Place) → all isByte bytes ≡ true → constantsFit (readStatement bytes p) ≡ true
+read-fits bytes p are =
+    and-both _ _ (operand-fits (drop (1 + placeWidth p) bytes) (all-drop isByte (1 + placeWidth p) bytes are)) (right-fits bytes p (readLeft bytes p) are)
+
+-- What a record that is whole says: a statement that is well formed, has constants of 32 bits, and is written as the record's bytes.
 pub record Said (bytes : List ℕ) (s : Statement) : Type 0 where
   pub formed : wellFormed s ≡ true
+  pub fit : all isByte bytes ≡ true → constantsFit s ≡ true
   pub sized : length bytes ≡ statementWidth s
   pub written : all isByte bytes ≡ true → statementBytes s ≡ bytes
 
@@ -99,22 +110,33 @@ behind-said bytes (Held p) found =
     pick-holds (λ (r : Record). Reads (Said bytes) (said r)) (wellFormed s && eqb (length bytes) (statementWidth s)) (Whole s) Broken
     (λ passed.
     let sized = eqb-true (length bytes) (statementWidth s) (and-right (wellFormed s) _ passed) in
-    record { formed = and-left _ _ passed; sized = sized; written = λ are. read-written bytes p are found sized })
+    record { formed = and-left _ _ passed; fit = read-fits bytes p; sized = sized; written = λ are. read-written bytes p are found sized })
     (λ failed. omega arith)
 
 pub record-said : (bytes : List ℕ) → Reads (Said bytes) (said (readRecord bytes))
 unfolding readRecord
 record-said bytes = behind-said bytes (readOperand (drop 1 bytes)) refl
 
--- what is read of the bytes of a statement is that statement
-left-is : (s : Statement) → wellFormed s ≡ true → constantsFit s ≡ true → readLeft (statementBytes s) (s .destination) ≡ s .left
-left-is s formed fit =
-    let front = s .operation ∷ placeBytes (s .destination) in
-    let e : drop (1 + placeWidth (s .destination)) (statementBytes s) ≡ operandBytes (s .left) ++ operandBytes (s .right) =
-    ap (drop (1 + placeWidth (s .destination))) (append-assoc front (operandBytes (s .left)) (operandBytes (s .right)))
-    ∙ drop-at front _ (1 + placeWidth (s .destination)) (omega (arith, place-length (s .destination)))
-    in
-    ap readOperand e ∙ operand-read (s .left) (operandBytes (s .right)) (and-right (leb (s .operation) 7) _ (and-left _ _ formed)) (and-left _ _ fit)
+-- the parts of a statement's bytes: what is behind the operation, behind the destination, behind the left operand
+behind-operation : (s : Statement) → drop 1 (statementBytes s) ≡ placeBytes (s .destination) ++ (operandBytes (s .left) ++ operandBytes (s .right))
+behind-operation s = append-assoc (placeBytes (s .destination)) (operandBytes (s .left)) (operandBytes (s .right))
+
+behind-destination : (s : Statement) → drop (1 + placeWidth (s .destination)) (statementBytes s) ≡ operandBytes (s .left) ++ operandBytes (s .right)
+behind-destination s =
+    sym (drop-drop (placeWidth (s .destination)) 1 (statementBytes s))
+    ∙ ap (drop (placeWidth (s .destination))) (behind-operation s)
+    ∙ drop-at (placeBytes (s .destination)) _ (placeWidth (s .destination)) (place-length (s .destination))
+
+behind-left : (s : Statement) → drop (1 + placeWidth (s .destination) + operandWidth (s .left)) (statementBytes s) ≡ operandBytes (s .right)
+behind-left s =
+    sym (drop-drop (operandWidth (s .left)) (1 + placeWidth (s .destination)) (statementBytes s))
+    ∙ ap (drop (operandWidth (s .left))) (behind-destination s)
+    ∙ drop-at (operandBytes (s .left)) _ (operandWidth (s .left)) (operand-length (s .left))
+
+-- what is read of them is the statement
+left-is : (s : Statement) → isOperand (s .left) ≡ true → constantsFit s ≡ true → readLeft (statementBytes s) (s .destination) ≡ s .left
+left-is s there fit =
+    ap readOperand (behind-destination s) ∙ operand-read (s .left) (operandBytes (s .right)) there (and-left _ _ fit)
 
 no-operand : (o : Operand) → not (isOperand o) ≡ true → o ≡ Nothing
 no-operand Nothing e = refl
@@ -128,28 +150,22 @@ right-by false o e fits = ap readOperand (sym (append-nil (operandBytes o))) ∙
 
 right-is : (s : Statement) → wellFormed s ≡ true → constantsFit s ≡ true → readRight (statementBytes s) (s .destination) (s .left) ≡ s .right
 right-is s formed fit =
-    let front = s .operation ∷ placeBytes (s .destination) ++ operandBytes (s .left) in
-    let e : drop (1 + placeWidth (s .destination) + operandWidth (s .left)) (statementBytes s) ≡ operandBytes (s .right) =
-    drop-at front (operandBytes (s .right)) (1 + placeWidth (s .destination) + operandWidth (s .left))
-    (omega (arith, length-append (placeBytes (s .destination)) (operandBytes (s .left)), place-length (s .destination), operand-length (s .left)))
-    in
-    ap (λ (rest : List ℕ). pick (isCopy s) Nothing (readOperand rest)) e
+    ap (λ (rest : List ℕ). pick (isCopy s) Nothing (readOperand rest)) (behind-left s)
     ∙ right-by (isCopy s) (s .right) (and-right (leb (s .operation) 7 && isOperand (s .left)) _ formed) (and-right (constantFits (s .left)) _ fit)
 
 statement-is : (s : Statement) → wellFormed s ≡ true → constantsFit s ≡ true → readStatement (statementBytes s) (s .destination) ≡ s
 statement-is s formed fit =
-    let e = left-is s formed fit in
+    let e = left-is s (and-right (leb (s .operation) 7) _ (and-left _ _ formed)) fit in
     ap₂ (λ (l r : Operand). record { operation = s .operation; destination = s .destination; left = l; right = r }) e
     (ap (readRight (statementBytes s) (s .destination)) e ∙ right-is s formed fit)
+
+destination-is : (s : Statement) → readOperand (drop 1 (statementBytes s)) ≡ Held (s .destination)
+destination-is s = ap readOperand (behind-operation s) ∙ operand-read (Held (s .destination)) _ refl refl
 
 -- A statement that is well formed is read back from its bytes.
 pub record-read : (s : Statement) → wellFormed s ≡ true → constantsFit s ≡ true → readRecord (statementBytes s) ≡ Whole s
 unfolding readRecord
 record-read s formed fit =
-    let found : readOperand (drop 1 (statementBytes s)) ≡ Held (s .destination) =
-    ap readOperand (append-assoc (placeBytes (s .destination)) (operandBytes (s .left)) (operandBytes (s .right)))
-    ∙ operand-read (Held (s .destination)) _ refl refl
-    in
-    ap (readBehind (statementBytes s)) found
+    ap (readBehind (statementBytes s)) (destination-is s)
     ∙ ap (whole (statementBytes s)) (statement-is s formed fit)
     ∙ ap (λ (test : Bool). pick test (Whole s) Broken) (and-both _ _ formed (eq-eqb _ _ (statement-length s)))
