@@ -1,1 +1,4 @@
 pub mod Paths
+pub mod Computes
+pub mod Making
+pub mod WorkedBlocks
