@@ -16,5 +16,20 @@ use Rattle.meaning.specs.Choice.{scheduledUnits, packedList, plainList, 
 use Rattle.meaning.specs.Calls.{readBlockCall, writeBlockCall, makeListCall, runBlockCall, runListCall}
 
 unfoldable pub everything : Unit {0}
-unfolding blockPrice readOperand readRecord readLengths readStatements readBlock blockBytes writeBlock operate runStatement runBlock listPrice listBytes readInstruction readRecords readList allowed runInstruction runList reachability independent chain mayBeAdmitted seed lastWriter definitions loss useToDefinition bestReaders definitionToUse visitFrom extend cut combine scheduleFrom schedule written extract emitSingle load fetchTuple fetchedIn operated storeTuple landed emitPack emission scheduledUnits packedList plainList chosenList readBlockCall writeBlockCall makeListCall runBlockCall runListCall
+unfolding
+    blockPrice
+    readOperand readRecord readLengths readStatements readBlock blockBytes writeBlock
+    operate runStatement runBlock
+    listPrice listBytes readInstruction readRecords readList allowed
+    runInstruction runList
+    reachability independent
+    chain mayBeAdmitted
+    seed
+    lastWriter definitions loss
+    useToDefinition bestReaders definitionToUse visitFrom extend
+    cut combine
+    scheduleFrom schedule
+    written extract emitSingle load fetchTuple fetchedIn operated storeTuple landed emitPack emission
+    scheduledUnits packedList plainList chosenList
+    readBlockCall writeBlockCall makeListCall runBlockCall runListCall
 everything = tt

@@ -2,3 +2,4 @@ pub mod Paths
 pub mod Computes
 pub mod Making
 pub mod WorkedBlocks
+pub mod RivalReadings
