@@ -3,3 +3,4 @@ pub mod Computes
 pub mod Making
 pub mod WorkedBlocks
 pub mod RivalReadings
+pub mod Refusals
