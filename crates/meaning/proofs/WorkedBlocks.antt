@@ -1,10 +1,27 @@
 -- The worked blocks of document 01 that are marked *: what the definitions make of each of them, as one statement over one table. Block 3
 -- has two rows, block 5 three. "a, b, c.. are arrays 0, 1, 2..", each with as few cells as the block allows.
 use mathlib.Core.Path.{_≡_, refl}
+use Prim.Native.Nat.{ℕ}
 use mathlib.Core.List.{List, [], _∷_, map}
-use Rattle.meaning.specs.Format.{bytesOf}
+use Rattle.meaning.specs.Numbers.{Answer, refused, done}
+use Rattle.meaning.specs.Block.{Block}
+use Rattle.meaning.specs.Format.{bytesOf, readBlock}
+use Rattle.meaning.specs.List.{listPrice}
+use Rattle.meaning.specs.Pairs.{Pair, pair}
+use Rattle.meaning.specs.Seeding.{seed}
+use Rattle.meaning.specs.Estimate.{gain, loss}
+use Rattle.meaning.specs.Choice.{packedList}
 use Rattle.meaning.proofs.Computes.{everything}
 use Rattle.meaning.proofs.Making.{Row, made, expected}
+
+abbrev pub blockSix : List ℕ
+blockSix = bytesOf 27 0x01_001b_04_04_01_02_0002_080101000200000102_080101010200010103
+
+abbrev pub blockSeven : List ℕ
+blockSeven = bytesOf 57 0x01_0039_04_00_03_06_0002_0001_0002_06000100020000_06000101020001_0703010201000100_0703010301010101_06000202000102_06000202010103
+
+abbrev pub blockEight : List ℕ
+blockEight = bytesOf 55 0x01_0037_04_04_01_04_0002_0b0101000200000000000001_0b0101010200010000000001_0a03010201000000000003_0a03010301010000000003
 
 pub workedBlocks : List Row
 workedBlocks =
@@ -66,21 +83,21 @@ workedBlocks =
     }
     -- 6. v0=a[0]+v2; v1=a[1]+v3, four live out: the packed list costs 6, so S twice, 4 and 4.
     ∷ record {
-      block = bytesOf 27 0x01_001b_04_04_01_02_0002_080101000200000102_080101010200010103;
+      block = blockSix;
       blockCost = 4;
       listCost = 4;
       list = bytesOf 10 0x01_000a_02_020000_020001;
     }
     -- 7. v0=a[0]; v1=a[1]; v2=v0*v0; v3=v1*v1; c[0]=v2; c[1]=v3, none live out: the middle pair has estimate 1; 10 and 5.
     ∷ record {
-      block = bytesOf 57 0x01_0039_04_00_03_06_0002_0001_0002_06000100020000_06000101020001_0703010201000100_0703010301010101_06000202000102_06000202010103;
+      block = blockSeven;
       blockCost = 10;
       listCost = 5;
       list = bytesOf 35 0x01_0023_05_050100020000_050401000200_06040203020101_050403000202_050503020200;
     }
     -- 8. v0=a[0]+1; v1=a[1]+1; v2=v0*3; v3=v1*3, four live out: the second pair has estimate -2; 6 and 6.
     ∷ record {
-      block = bytesOf 55 0x01_0037_04_04_01_04_0002_0b0101000200000000000001_0b0101010200010000000001_0a03010201000000000003_0a03010301010000000003;
+      block = blockEight;
       blockCost = 6;
       listCost = 6;
       list = bytesOf 16 0x01_0010_04_020000_020001_020002_020003;
@@ -105,3 +122,27 @@ workedBlocks =
 pub worked-blocks : map made workedBlocks ≡ map expected workedBlocks
 unfolding everything workedBlocks
 worked-blocks = refl
+
+-- what a block's bytes say
+abbrev pub readAs : Answer Block → Block
+readAs (refused number) = record { variables = 0; live = 0; lengths = []; statements = [] }
+readAs (done b) = b
+
+abbrev pub blockOf : List ℕ → Block
+blockOf bytes = readAs (readBlock bytes)
+
+-- the price of the packed list, chosen or not
+abbrev pub packedPrice : Block → ℕ
+packedPrice b = listPrice (b .statements) (packedList b)
+
+-- the estimate of a pair after seeding: both S prices, and what is taken from them
+abbrev pub estimated : Block → Pair → ℕ × ℕ
+estimated b p = (gain (b .statements) p, loss (b .statements) (seed (b .statements)) p)
+
+-- Block 6: "the packed list costs 6". Block 7: "the middle pair has estimate 1", 2 less 1. Block 8: "the second pair has estimate -2", 2 less 4.
+pub worked-phases :
+    (packedPrice (blockOf blockSix) ≡ 6)
+    × (estimated (blockOf blockSeven) (pair 2 3) ≡ (2, 1))
+    × (estimated (blockOf blockEight) (pair 2 3) ≡ (2, 4))
+unfolding everything
+worked-phases = (refl, refl, refl)
