@@ -179,6 +179,12 @@ pub ofRunningABlock : List Row
 ofRunningABlock =
     -- version 2 (1) before one variable too many (6)
     gives 1 (runningBlock (bytesOf 7 0x02_0007_00_00_00_00) (contents 1 0))
+    -- under 7 bytes (2) before one variable too many (6)
+    ∷ gives 2 (runningBlock (bytesOf 6 0x01_0006_00_00_00) (contents 1 0))
+    -- one live out of no variable (3) before one variable too many (6)
+    ∷ gives 3 (runningBlock (bytesOf 7 0x01_0007_00_01_00_00) (contents 1 0))
+    -- record 0 is missing (4) before one variable too few (6)
+    ∷ gives 4 (runningBlock (bytesOf 7 0x01_0007_01_00_00_01) (contents 0 0))
     -- a variable not declared (5) before one variable too many (6)
     ∷ gives 5 (runningBlock (bytesOf 13 0x01_000d_01_00_00_01_050001010100) (contents 2 0))
     -- one variable too few
@@ -196,10 +202,16 @@ ofRunningABlock =
 -- "then, for a list, all of 8": what its bytes alone show
 pub ofRunningAList : List Row
 ofRunningAList =
+    -- version 2 of the block (1) before one cell too many (6) and version 2 of the list (8)
+    gives 1 (runningList (bytesOf 7 0x02_0007_00_00_00_00) (bytesOf 4 0x02_0004_00) (contents 0 1))
+    -- a block under 7 bytes (2) before a list of no bytes (8)
+    ∷ gives 2 (runningList [] [] (contents 0 0))
     -- a byte left over behind the block (4) before the cells (6) and the list (8)
-    gives 4 (runningList (bytesOf 8 0x01_0008_00_00_00_00_00) [] (contents 0 1))
+    ∷ gives 4 (runningList (bytesOf 8 0x01_0008_00_00_00_00_00) [] (contents 0 1))
     -- 33 variables (3) before a statement not declared (9)
     ∷ gives 3 (runningList (bytesOf 7 0x01_0007_21_00_00_00) (bytesOf 7 0x01_0007_01_020001) (contents 33 0))
+    -- a variable not declared (5) before one variable too many (6) and code 8 (8)
+    ∷ gives 5 (runningList (bytesOf 13 0x01_000d_01_00_00_01_050001010100) (bytesOf 7 0x01_0007_01_020800) (contents 2 0))
     -- one cell too few (6) before a list of no bytes (8)
     ∷ gives 6 (runningList good [] (contents 2 5))
     -- one variable too many (6) before a statement not declared (9)

@@ -118,7 +118,7 @@ workedBlocks =
     }
     ∷ []
 
--- Every worked block comes to the prices and to the list that document 01 gives it.
+-- Every worked block comes to the prices that document 01 gives it, and to this list.
 pub worked-blocks : map made workedBlocks ≡ map expected workedBlocks
 unfolding everything workedBlocks
 worked-blocks = refl
