@@ -1,4 +1,5 @@
 pub mod Paths
+pub mod Values
 pub mod Computes
 pub mod Making
 pub mod WorkedBlocks
