@@ -2,4 +2,5 @@ pub mod Tests
 pub mod Counting
 pub mod Sets
 pub mod Slots
+pub mod Lists
 pub mod Parts
