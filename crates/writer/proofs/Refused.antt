@@ -1,5 +1,5 @@
 -- What the number of a refusal says of `writeBlock`: the block is refused with it, or its bytes are the answer and its counts fit.
-use mathlib.Core.Path.{_≡_, refl, ap}
+use mathlib.Core.Path.{_≡_, refl}
 use mathlib.Core.Bool.{Bool, true, false, _&&_}
 use Prim.Native.Nat.{ℕ, _≤_}
 use native.Mathlib.Omega.{arith}
@@ -43,8 +43,7 @@ passed false b c e = absurd (omega arith)
 -- the limits that counts which fit keep
 pub limits : (variables live arrays statements : ℕ) → countsFit variables live arrays statements ≡ true → (arrays ≤ 8) × (statements ≤ 64)
 limits variables live arrays statements e =
-    let front = leb variables 32 && leb live variables in
-    (
+    let front = leb variables 32 && leb live variables in (
       leb-true arrays 8 (and-right front (leb arrays 8) (and-left (front && leb arrays 8) (leb statements 64) e)),
       leb-true statements 64 (and-right (front && leb arrays 8) (leb statements 64) e),
     )

@@ -69,10 +69,10 @@ module _ {A : Type 0} (bytes : A → List ℕ) (l : List A) (n : ℕ) where
           long = kept ∙ w .long;
           position = omega (arith, length-next i d more inside);
           stored =
-            rw (stores, moves)
-            (sym (sets-append room at (bytes (getD l i d)) (rest (i + 1)))
-            ∙ ap (λ (vs : List ℕ). sets room at vs) (sym (rest-next i d more inside))
-            ∙ w .stored);
+              rw (stores, moves)
+              (sym (sets-append room at (bytes (getD l i d)) (rest (i + 1)))
+              ∙ ap (λ (vs : List ℕ). sets room at vs) (sym (rest-next i d more inside))
+              ∙ w .stored);
         }
 
     pub behind : n ≤ i → at ≡ at₀ + length (flat (map bytes (take n l)))

@@ -1,7 +1,7 @@
 -- The whole block: how many bytes it has, and its bytes stored one part after the other.
-use mathlib.Core.Path.{_≡_, refl, sym, ap, _∙_}
+use mathlib.Core.Path.{_≡_, refl, sym, _∙_}
 use mathlib.Core.List.{List, [], _∷_, _++_, map}
-use Prim.Native.Nat.{ℕ, zero, suc, _+_, _*_, _/_, _%_, _≤_, min}
+use Prim.Native.Nat.{ℕ, _+_, _*_, _/_, _%_, _≤_}
 use native.Mathlib.Nat.{div-one}
 use native.Mathlib.Omega.{arith}
 use lib.ListN.{length, set, take, length-append, length-take}
@@ -9,8 +9,7 @@ use lib.Seq.{sets}
 use Rattle.basics.specs.Lists.{flat}
 use Rattle.basics.proofs.Stores.{sets-append}
 use Rattle.meaning.specs.declared.Block.{Block as Slots}
-use Rattle.meaning.specs.declared.Statement.{Statement}
-use Rattle.meaning.specs.Block.{Block, declared}
+use Rattle.meaning.specs.Block.{declared}
 use Rattle.meaning.specs.Format.{bytesOf, recordBytes, bodyBytes, blockBytes}
 
 -- "each array's length (2 bytes)"

@@ -1,9 +1,11 @@
 // The bytes of a block, put into the room one after the other: each function puts its own from a
 // position on, where the room has space for them, and returns the position behind them.
 
-use meaning::{Block, Operand, Place, Statement};
 use crate::sizes::statement_width;
-
+use meaning::Block;
+use meaning::Operand;
+use meaning::Place;
+use meaning::Statement;
 ghost use mathlib.Core.Path.{_≡_};
 ghost use mathlib.Core.List.{_∷_, map};
 ghost use Prim.Native.Nat.{_+_, _≤_};

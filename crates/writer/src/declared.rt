@@ -1,7 +1,9 @@
 // What a block declares: "variable, array or index not declared" is 5.
 
-use meaning::{Block, Operand, Place, Statement};
-
+use meaning::Block;
+use meaning::Operand;
+use meaning::Place;
+use meaning::Statement;
 ghost use mathlib.Core.Path.{_≡_};
 ghost use Prim.Native.Nat.{_≤_};
 ghost use lib.ListN.{take};
@@ -42,7 +44,12 @@ pub fn declares_operand(variables: u8, arrays: u8, lengths: [u16; 8], operand: O
     }
 }
 
-pub fn declares_statement(variables: u8, arrays: u8, lengths: [u16; 8], statement: Statement) -> bool
+pub fn declares_statement(
+    variables: u8,
+    arrays: u8,
+    lengths: [u16; 8],
+    statement: Statement,
+) -> bool
     ensures { λ r. ⌜ r ≡ declaresStatement variables (take arrays lengths) statement ⌝ }
 {
     let destination = statement.destination;

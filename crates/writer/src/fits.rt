@@ -1,8 +1,9 @@
 // What the writer tests first: the counts and the array lengths (3), then the form of each statement
 // (4).
 
-use meaning::{Block, Operand, Statement};
-
+use meaning::Block;
+use meaning::Operand;
+use meaning::Statement;
 ghost use mathlib.Core.Path.{_≡_};
 ghost use Prim.Native.Nat.{_≤_};
 ghost use lib.ListN.{take};

@@ -1,13 +1,12 @@
 // Writing a block: from a block in memory, by value, to its bytes in a lent room. "The writer: 3, 4,
 // 5, 7, each over the whole block."
 
-mod fits;
-mod declared;
-mod sizes;
 mod bytes;
+mod declared;
+mod fits;
+mod sizes;
 
 use meaning::Block;
-
 ghost use mathlib.Core.Path.{_≡_};
 ghost use Prim.Native.Nat.{_≤_};
 ghost use Rattle.meaning.specs.Numbers.{done};
@@ -63,6 +62,9 @@ pub fn write_block(block: Block, room: &mut [u8]) -> BlockWritten
     if number == 0 {
         fill(block, room)
     } else {
-        BlockWritten { status: number, size: 0 }
+        BlockWritten {
+            status: number,
+            size: 0,
+        }
     }
 }

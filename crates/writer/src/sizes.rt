@@ -1,7 +1,9 @@
 // How many bytes a block takes, and each part of it.
 
-use meaning::{Block, Operand, Place, Statement};
-
+use meaning::Block;
+use meaning::Operand;
+use meaning::Place;
+use meaning::Statement;
 ghost use mathlib.Core.Path.{_≡_};
 ghost use Prim.Native.Nat.{_≤_};
 ghost use lib.ListN.{length};

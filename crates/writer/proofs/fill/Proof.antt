@@ -5,10 +5,6 @@ use Rattle.writer.proofs.Filled.{filled, too-small}
 use borrow.Author.Needs.{needs}
 use Rattle.writer.proofs.fill.Statement.{statement}
 use Rattle.writer.proofs.fill.Tie as tie
-use Rattle.writer.proofs.fill.Reads as reads
-use Rattle.writer.proofs.fill.Lts as lts
-use Rattle.writer.proofs.bytes.write_bytes.Reads as write-bytes-reads
-use Rattle.writer.proofs.sizes.block_size.Reads as block-size-reads
 
 block-size-requires : tie.Need-block-size-requires
 block-size-requires c κs = search needs

@@ -1,4 +1,3 @@
-use borrow.Author.Tests.{le-ltb, lt-ltb, le-leb, lt-leb, eq-eqb, ne-eqb}
 -- `refusal` meets its contract: the four tests in their order.
 use mathlib.Core.Path.{sym, _∙_}
 use Rattle.writer.specs.Refusal.{refusalOf}
@@ -6,12 +5,6 @@ use Rattle.writer.proofs.Refused.{limits}
 use borrow.Author.Needs.{needs}
 use Rattle.writer.proofs.refusal.Statement.{statement}
 use Rattle.writer.proofs.refusal.Tie as tie
-use Rattle.writer.proofs.refusal.Reads as reads
-use Rattle.writer.proofs.refusal.Lts as lts
-use Rattle.writer.proofs.declared.all_declared.Reads as all-declared-reads
-use Rattle.writer.proofs.fits.all_well_formed.Reads as all-well-formed-reads
-use Rattle.writer.proofs.fits.counts_fit.Reads as counts-fit-reads
-use Rattle.writer.proofs.fits.lengths_fit.Reads as lengths-fit-reads
 
 counts-fit-requires : tie.Need-counts-fit-requires
 counts-fit-requires c κs = search needs
@@ -34,55 +27,60 @@ all-declared-requires c κs =
 returns : tie.Need-returns
 unfolding refusalOf
 returns c =
-    simp
-    (c .if4 .taken,
-    ← c .before .all-declared .ensures,
-    c .before .before .if3 .taken,
-    ← c .before .before .before .all-well-formed .ensures,
-    c .before .before .before .before .if2 .taken,
-    ← c .before .before .before .before .before .lengths-fit .ensures,
-    c .before .before .before .before .before .before .if1 .taken,
-    ← c .before .before .before .before .before .before .before .counts-fit .ensures)
+    simp (
+      c .if4 .taken,
+      ← c .before .all-declared .ensures,
+      c .before .before .if3 .taken,
+      ← c .before .before .before .all-well-formed .ensures,
+      c .before .before .before .before .if2 .taken,
+      ← c .before .before .before .before .before .lengths-fit .ensures,
+      c .before .before .before .before .before .before .if1 .taken,
+      ← c .before .before .before .before .before .before .before .counts-fit .ensures,
+    )
 
 returns-2 : tie.Need-returns-2
 unfolding refusalOf
 returns-2 c =
-    simp
-    (c .if4 .left,
-    ← c .before .all-declared .ensures,
-    c .before .before .if3 .taken,
-    ← c .before .before .before .all-well-formed .ensures,
-    c .before .before .before .before .if2 .taken,
-    ← c .before .before .before .before .before .lengths-fit .ensures,
-    c .before .before .before .before .before .before .if1 .taken,
-    ← c .before .before .before .before .before .before .before .counts-fit .ensures)
+    simp (
+      c .if4 .left,
+      ← c .before .all-declared .ensures,
+      c .before .before .if3 .taken,
+      ← c .before .before .before .all-well-formed .ensures,
+      c .before .before .before .before .if2 .taken,
+      ← c .before .before .before .before .before .lengths-fit .ensures,
+      c .before .before .before .before .before .before .if1 .taken,
+      ← c .before .before .before .before .before .before .before .counts-fit .ensures,
+    )
 
 returns-3 : tie.Need-returns-3
 unfolding refusalOf
 returns-3 c =
-    simp
-    (c .if3 .left,
-    ← c .before .all-well-formed .ensures,
-    c .before .before .if2 .taken,
-    ← c .before .before .before .lengths-fit .ensures,
-    c .before .before .before .before .if1 .taken,
-    ← c .before .before .before .before .before .counts-fit .ensures)
+    simp (
+      c .if3 .left,
+      ← c .before .all-well-formed .ensures,
+      c .before .before .if2 .taken,
+      ← c .before .before .before .lengths-fit .ensures,
+      c .before .before .before .before .if1 .taken,
+      ← c .before .before .before .before .before .counts-fit .ensures,
+    )
 
 returns-4 : tie.Need-returns-4
 unfolding refusalOf
 returns-4 c =
-    simp
-    (c .if2 .left,
-    ← c .before .lengths-fit .ensures,
-    c .before .before .if1 .taken,
-    ← c .before .before .before .counts-fit .ensures)
+    simp (
+      c .if2 .left,
+      ← c .before .lengths-fit .ensures,
+      c .before .before .if1 .taken,
+      ← c .before .before .before .counts-fit .ensures,
+    )
 
 returns-5 : tie.Need-returns-5
 unfolding refusalOf
 returns-5 c =
-    simp
-    (c .if1 .left,
-    ← c .before .counts-fit .ensures)
+    simp (
+      c .if1 .left,
+      ← c .before .counts-fit .ensures,
+    )
 
 pub refusal-spec : {M : Type 1} → statement M
 refusal-spec =

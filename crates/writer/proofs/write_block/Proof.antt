@@ -6,10 +6,6 @@ use Rattle.writer.proofs.Refused.{refused-with, not-refused, few-arrays
 use borrow.Author.Needs.{needs}
 use Rattle.writer.proofs.write_block.Statement.{statement}
 use Rattle.writer.proofs.write_block.Tie as tie
-use Rattle.writer.proofs.write_block.Reads as reads
-use Rattle.writer.proofs.write_block.Lts as lts
-use Rattle.writer.proofs.fill.Reads as fill-reads
-use Rattle.writer.proofs.refusal.Reads as refusal-reads
 
 refusal-requires : tie.Need-refusal-requires
 refusal-requires c κs = search needs

@@ -7,10 +7,6 @@ use Rattle.writer.proofs.Whole.{parts-size, block-stored}
 use borrow.Author.Needs.{needs}
 use Rattle.writer.proofs.bytes.write_bytes.Statement.{statement}
 use Rattle.writer.proofs.bytes.write_bytes.Tie as tie
-use Rattle.writer.proofs.bytes.write_bytes.Reads as reads
-use Rattle.writer.proofs.bytes.write_bytes.Lts as lts
-use Rattle.writer.proofs.bytes.write_lengths.Reads as write-lengths-reads
-use Rattle.writer.proofs.bytes.write_statements.Reads as write-statements-reads
 
 slice-write-room : tie.Need-slice-write-room
 slice-write-room c = omega (arith, parts-size (c .before .args .block))

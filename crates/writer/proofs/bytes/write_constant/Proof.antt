@@ -7,8 +7,6 @@ use lib.ListN.{length-set}
 use borrow.Author.Needs.{needs}
 use Rattle.writer.proofs.bytes.write_constant.Statement.{statement}
 use Rattle.writer.proofs.bytes.write_constant.Tie as tie
-use Rattle.writer.proofs.bytes.write_constant.Reads as reads
-use Rattle.writer.proofs.bytes.write_constant.Lts as lts
 
 slice-write-room : tie.Need-slice-write-room
 slice-write-room c = search needs

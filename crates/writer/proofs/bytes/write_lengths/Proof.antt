@@ -10,8 +10,6 @@ use Rattle.meaning.specs.Format.{bytesOf}
 use Rattle.writer.proofs.Run.{Written, start, space, next, behind, all-stored}
 use Rattle.writer.proofs.bytes.write_lengths.Statement.{statement}
 use Rattle.writer.proofs.bytes.write_lengths.Tie as tie
-use Rattle.writer.proofs.bytes.write_lengths.Reads as reads
-use Rattle.writer.proofs.bytes.write_lengths.Lts as lts
 
 abbrev Inv-loop : tie.InvT-loop
 Inv-loop room₀ at block arrays place₀ i₀ room place i =
@@ -77,8 +75,7 @@ same-length c = c .before .loop .inv .long
 
 returns : tie.Need-returns Inv-loop μ-loop
 returns c =
-    let b = c .before .before .args .t1 in
-    (
+    let b = c .before .before .args .t1 in (
       behind (bytesOf 2) (b .lengths) (b .arrays) (c .before .loop .inv) (c .loop-test .left),
       all-stored (bytesOf 2) (b .lengths) (b .arrays) (c .before .loop .inv) (c .loop-test .left),
     )

@@ -3,10 +3,6 @@ use native.Mathlib.Nat.{add-zero}
 use borrow.Author.Needs.{needs}
 use Rattle.writer.proofs.bytes.write_operand.Statement.{statement}
 use Rattle.writer.proofs.bytes.write_operand.Tie as tie
-use Rattle.writer.proofs.bytes.write_operand.Reads as reads
-use Rattle.writer.proofs.bytes.write_operand.Lts as lts
-use Rattle.writer.proofs.bytes.write_constant.Reads as write-constant-reads
-use Rattle.writer.proofs.bytes.write_place.Reads as write-place-reads
 
 enum-told : tie.Need-enum-told
 enum-told c = search needs

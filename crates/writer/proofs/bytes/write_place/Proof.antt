@@ -5,8 +5,6 @@ use lib.ListN.{length-set}
 use borrow.Author.Needs.{needs}
 use Rattle.writer.proofs.bytes.write_place.Statement.{statement}
 use Rattle.writer.proofs.bytes.write_place.Tie as tie
-use Rattle.writer.proofs.bytes.write_place.Reads as reads
-use Rattle.writer.proofs.bytes.write_place.Lts as lts
 
 enum-known-place : tie.Need-enum-known-place
 enum-known-place c = search needs

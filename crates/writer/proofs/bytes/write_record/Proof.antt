@@ -2,16 +2,10 @@
 use mathlib.Core.Path.{_≡_, _∙_}
 use native.Mathlib.Omega.{arith}
 use lib.ListN.{length, length-set}
-use lib.Seq.{length-sets}
 use Rattle.writer.proofs.Widths.{statement-width-bound, record-length, record-end, record-stored}
 use borrow.Author.Needs.{needs}
 use Rattle.writer.proofs.bytes.write_record.Statement.{statement}
 use Rattle.writer.proofs.bytes.write_record.Tie as tie
-use Rattle.writer.proofs.bytes.write_record.Reads as reads
-use Rattle.writer.proofs.bytes.write_record.Lts as lts
-use Rattle.writer.proofs.bytes.write_operand.Reads as write-operand-reads
-use Rattle.writer.proofs.bytes.write_place.Reads as write-place-reads
-use Rattle.writer.proofs.sizes.statement_width.Reads as statement-width-reads
 
 statement-width-requires : tie.Need-statement-width-requires
 statement-width-requires c κs = search needs
@@ -64,8 +58,7 @@ returns c =
     let width = c .before .before .before .before .before .before .before .before .before .before .before .before .statement-width .ensures in
     let one = c .before .before .before .before .before .before .before .before .before .before .write-place .ensures in
     let two = c .before .before .before .before .before .before .write-operand .ensures in
-    let three = c .before .before .write-operand2 .ensures in
-    (
+    let three = c .before .before .write-operand2 .ensures in (
       record-end (a .statement) (a .room .now) (a .at) (one .0) (two .0) (three .0),
       record-stored (a .statement) (a .room .now) (a .at) width (one .0) (one .1) (two .0) (two .1) (three .1),
     )

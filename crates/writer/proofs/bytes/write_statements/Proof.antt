@@ -10,9 +10,6 @@ use Rattle.meaning.specs.Format.{recordBytes}
 use Rattle.writer.proofs.Run.{Written, start, space, next, behind, all-stored}
 use Rattle.writer.proofs.bytes.write_statements.Statement.{statement}
 use Rattle.writer.proofs.bytes.write_statements.Tie as tie
-use Rattle.writer.proofs.bytes.write_statements.Reads as reads
-use Rattle.writer.proofs.bytes.write_statements.Lts as lts
-use Rattle.writer.proofs.bytes.write_record.Reads as write-record-reads
 
 abbrev Inv-loop : tie.InvT-loop
 Inv-loop room₀ at block count place₀ i₀ room place i =
@@ -58,8 +55,7 @@ same-length c = c .before .loop .inv .long
 
 returns : tie.Need-returns Inv-loop μ-loop
 returns c =
-    let b = c .before .before .before .args .t1 in
-    (
+    let b = c .before .before .before .args .t1 in (
       behind recordBytes (b .statements) (b .count) (c .before .loop .inv) (c .loop-test .left),
       all-stored recordBytes (b .statements) (b .count) (c .before .loop .inv) (c .loop-test .left),
     )

@@ -1,73 +1,61 @@
-use borrow.Author.Tests.{le-ltb, lt-ltb, le-leb, lt-leb, eq-eqb, ne-eqb}
+-- `fits::well_formed` meets its contract: the tests of the operation and of the operands that it wants.
+use borrow.Author.Tests.{le-leb, lt-leb, eq-eqb, ne-eqb}
 use borrow.Author.Needs.{needs}
 use Rattle.writer.proofs.fits.well_formed.Statement.{statement}
 use Rattle.writer.proofs.fits.well_formed.Tie as tie
-use Rattle.writer.proofs.fits.well_formed.Reads as reads
-use Rattle.writer.proofs.fits.well_formed.Lts as lts
-use Rattle.writer.proofs.fits.is_operand.Reads as is-operand-reads
 
--- src/fits.rt:71:9
 returns : tie.Need-returns
 returns c =
-    simp
-    (lt-ltb _ _ (c .if1 .taken),
-    lt-leb _ _ (c .if1 .taken))
+    simp (lt-leb _ _ (c .if1 .taken))
 
--- src/fits.rt:73:8
 is-operand-requires : tie.Need-is-operand-requires
 is-operand-requires c κs = search needs
 
--- src/fits.rt:75:16
 is-operand-requires-2 : tie.Need-is-operand-requires-2
 is-operand-requires-2 c κs = search needs
 
--- src/fits.rt:76:17
 returns-2 : tie.Need-returns-2
 returns-2 c =
-    simp
-    (c .if4 .taken,
-    ← c .before .is-operand2 .ensures,
-    eq-eqb _ _ (c .before .before .if3 .taken),
-    c .before .before .before .before .if2 .taken,
-    ← c .before .before .before .before .before .is-operand .ensures,
-    le-ltb _ _ (c .before .before .before .before .before .before .if1 .left),
-    le-leb _ _ (c .before .before .before .before .before .before .if1 .left))
+    simp (
+      c .if4 .taken,
+      ← c .before .is-operand2 .ensures,
+      eq-eqb _ _ (c .before .before .if3 .taken),
+      c .before .before .before .before .if2 .taken,
+      ← c .before .before .before .before .before .is-operand .ensures,
+      le-leb _ _ (c .before .before .before .before .before .before .if1 .left),
+    )
 
--- src/fits.rt:78:13
 returns-3 : tie.Need-returns-3
 returns-3 c =
-    simp
-    (c .if4 .left,
-    ← c .before .is-operand2 .ensures,
-    eq-eqb _ _ (c .before .before .if3 .taken),
-    c .before .before .before .before .if2 .taken,
-    ← c .before .before .before .before .before .is-operand .ensures,
-    le-ltb _ _ (c .before .before .before .before .before .before .if1 .left),
-    le-leb _ _ (c .before .before .before .before .before .before .if1 .left))
+    simp (
+      c .if4 .left,
+      ← c .before .is-operand2 .ensures,
+      eq-eqb _ _ (c .before .before .if3 .taken),
+      c .before .before .before .before .if2 .taken,
+      ← c .before .before .before .before .before .is-operand .ensures,
+      le-leb _ _ (c .before .before .before .before .before .before .if1 .left),
+    )
 
--- src/fits.rt:80:9
 is-operand-requires-3 : tie.Need-is-operand-requires-3
 is-operand-requires-3 c κs = search needs
 
--- src/fits.rt:80:9
 returns-4 : tie.Need-returns-4
 returns-4 c =
-    simp
-    (c .is-operand3 .ensures,
-    ne-eqb _ _ (c .before .if3 .left),
-    c .before .before .before .if2 .taken,
-    ← c .before .before .before .before .is-operand .ensures,
-    le-ltb _ _ (c .before .before .before .before .before .if1 .left),
-    le-leb _ _ (c .before .before .before .before .before .if1 .left))
+    simp (
+      c .is-operand3 .ensures,
+      ne-eqb _ _ (c .before .if3 .left),
+      c .before .before .before .if2 .taken,
+      ← c .before .before .before .before .is-operand .ensures,
+      le-leb _ _ (c .before .before .before .before .before .if1 .left),
+    )
 
--- src/fits.rt:65:1
 returns-5 : tie.Need-returns-5
 returns-5 c =
-    simp
-    (c .if2 .left,
-    ← c .before .is-operand .ensures,
-    le-ltb _ _ (c .before .before .if1 .left),
-    le-leb _ _ (c .before .before .if1 .left))
+    simp (
+      c .if2 .left,
+      ← c .before .is-operand .ensures,
+      le-leb _ _ (c .before .before .if1 .left),
+    )
 
 pub well-formed-spec : {M : Type 1} → statement M
 well-formed-spec =

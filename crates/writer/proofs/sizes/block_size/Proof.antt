@@ -12,9 +12,6 @@ use Rattle.writer.proofs.Run.{rest, rest-all, length-next, length-none}
 use Rattle.writer.proofs.Whole.{block-size}
 use Rattle.writer.proofs.sizes.block_size.Statement.{statement}
 use Rattle.writer.proofs.sizes.block_size.Tie as tie
-use Rattle.writer.proofs.sizes.block_size.Reads as reads
-use Rattle.writer.proofs.sizes.block_size.Lts as lts
-use Rattle.writer.proofs.sizes.statement_width.Reads as statement-width-reads
 
 abbrev Inv-loop : tie.InvT-loop
 Inv-loop block count size₀ i₀ size i =
@@ -75,8 +72,7 @@ loop-again c =
     let b = c .before .before .before .before .args .t1 in
     let at = c .before .before .before .loop in
     let s = getD (b .statements) (at .i) blank in
-    let less = length-next recordBytes (b .statements) (b .count) (at .i) blank (omega arith) (omega arith) in
-    (
+    let less = length-next recordBytes (b .statements) (b .count) (at .i) blank (omega arith) (omega arith) in (
       omega arith,
       omega arith,
       omega arith,

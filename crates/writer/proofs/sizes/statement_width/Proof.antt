@@ -4,10 +4,6 @@ use Rattle.writer.proofs.Widths.{place-width-bound, operand-width-bound
 use borrow.Author.Needs.{needs}
 use Rattle.writer.proofs.sizes.statement_width.Statement.{statement}
 use Rattle.writer.proofs.sizes.statement_width.Tie as tie
-use Rattle.writer.proofs.sizes.statement_width.Reads as reads
-use Rattle.writer.proofs.sizes.statement_width.Lts as lts
-use Rattle.writer.proofs.sizes.operand_width.Reads as operand-width-reads
-use Rattle.writer.proofs.sizes.place_width.Reads as place-width-reads
 
 place-width-requires : tie.Need-place-width-requires
 place-width-requires c κs = search needs
