@@ -1,4 +1,5 @@
 -- `fill` meets its contract: 7 where the room is too small, else what `write_bytes` leaves in it.
+use native.Mathlib.Omega.{arith}
 use Rattle.meaning.specs.Block.{declared}
 use Rattle.meaning.specs.Format.{blockBytes}
 use Rattle.writer.proofs.Filled.{filled, too-small}
@@ -12,7 +13,7 @@ block-size-requires c κs = search needs
 returns : tie.Need-returns
 returns c =
     let a = c .before .before .before .args in
-    too-small (blockBytes (declared (a .block))) (a .room .now) (c .before .block-size .ensures) (c .if1 .taken)
+    too-small (blockBytes (declared (a .block))) (a .room .now) (c .before .block-size .ensures) (omega arith)
 
 write-bytes-requires : tie.Need-write-bytes-requires
 write-bytes-requires c κs = search needs

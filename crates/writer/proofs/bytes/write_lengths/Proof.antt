@@ -39,7 +39,7 @@ cast-room c = omega arith
 slice-write-room : tie.Need-slice-write-room Inv-loop μ-loop
 slice-write-room c =
     let b = c .before .before .before .args .t1 in
-    omega (arith, space (bytesOf 2) (b .lengths) (b .arrays) (c .before .before .loop .inv) 0 (c .before .loop-test .taken))
+    omega (arith, space (bytesOf 2) (b .lengths) (b .arrays) (c .before .before .loop .inv) 0 (omega arith))
 
 cast-room-2 : tie.Need-cast-room-2 Inv-loop μ-loop
 cast-room-2 c = omega arith
@@ -47,17 +47,17 @@ cast-room-2 c = omega arith
 add-room : tie.Need-add-room Inv-loop μ-loop
 add-room c =
     let b = c .before .before .before .args .t1 in
-    omega (arith, space (bytesOf 2) (b .lengths) (b .arrays) (c .before .before .loop .inv) 0 (c .before .loop-test .taken))
+    omega (arith, space (bytesOf 2) (b .lengths) (b .arrays) (c .before .before .loop .inv) 0 (omega arith))
 
 slice-write-room-2 : tie.Need-slice-write-room-2 Inv-loop μ-loop
 slice-write-room-2 c =
     let b = c .before .before .before .args .t1 in
-    simp length-set (omega (arith, space (bytesOf 2) (b .lengths) (b .arrays) (c .before .before .loop .inv) 0 (c .before .loop-test .taken)))
+    simp length-set (omega (arith, space (bytesOf 2) (b .lengths) (b .arrays) (c .before .before .loop .inv) 0 (omega arith)))
 
 add-place : tie.Need-add-place Inv-loop μ-loop
 add-place c =
     let b = c .before .before .before .args .t1 in
-    omega (arith, space (bytesOf 2) (b .lengths) (b .arrays) (c .before .before .loop .inv) 0 (c .before .loop-test .taken))
+    omega (arith, space (bytesOf 2) (b .lengths) (b .arrays) (c .before .before .loop .inv) 0 (omega arith))
 
 add-i : tie.Need-add-i Inv-loop μ-loop
 add-i c = omega arith
@@ -68,7 +68,7 @@ loop-less c = omega arith
 loop-again : tie.Need-loop-again Inv-loop μ-loop
 loop-again c =
     let b = c .before .before .before .args .t1 in
-    next (bytesOf 2) (b .lengths) (b .arrays) (c .before .before .loop .inv) 0 (c .before .loop-test .taken) (simp (add-one, div-one)) refl
+    next (bytesOf 2) (b .lengths) (b .arrays) (c .before .before .loop .inv) 0 (omega arith) (simp (add-one, div-one)) refl
 
 same-length : tie.Need-same-length Inv-loop μ-loop
 same-length c = c .before .loop .inv .long
@@ -76,8 +76,8 @@ same-length c = c .before .loop .inv .long
 returns : tie.Need-returns Inv-loop μ-loop
 returns c =
     let b = c .before .before .args .t1 in (
-      behind (bytesOf 2) (b .lengths) (b .arrays) (c .before .loop .inv) (c .loop-test .left),
-      all-stored (bytesOf 2) (b .lengths) (b .arrays) (c .before .loop .inv) (c .loop-test .left),
+      behind (bytesOf 2) (b .lengths) (b .arrays) (c .before .loop .inv) (omega arith),
+      all-stored (bytesOf 2) (b .lengths) (b .arrays) (c .before .loop .inv) (omega arith),
     )
 
 pub write-lengths-spec : {M : Type 1} → statement M

@@ -36,7 +36,7 @@ element-copy-out-statement c = omega arith
 write-record-requires : tie.Need-write-record-requires Inv-loop μ-loop
 write-record-requires c κs =
     let b = c .before .before .before .before .before .args .t1 in
-    space recordBytes (b .statements) (b .count) (c .before .before .before .loop .inv) blank (c .before .before .loop-test .taken)
+    space recordBytes (b .statements) (b .count) (c .before .before .before .loop .inv) blank (omega arith)
 
 add-i : tie.Need-add-i Inv-loop μ-loop
 add-i c = omega arith
@@ -48,7 +48,7 @@ loop-again : tie.Need-loop-again Inv-loop μ-loop
 loop-again c =
     let b = c .before .before .before .before .before .before .before .before .args .t1 in
     let written = c .before .before .write-record .ensures in
-    next recordBytes (b .statements) (b .count) (c .before .before .before .before .before .before .loop .inv) blank (c .before .before .before .before .before .loop-test .taken) (written .1) (written .0)
+    next recordBytes (b .statements) (b .count) (c .before .before .before .before .before .before .loop .inv) blank (omega arith) (written .1) (written .0)
 
 same-length : tie.Need-same-length Inv-loop μ-loop
 same-length c = c .before .loop .inv .long
@@ -56,8 +56,8 @@ same-length c = c .before .loop .inv .long
 returns : tie.Need-returns Inv-loop μ-loop
 returns c =
     let b = c .before .before .before .args .t1 in (
-      behind recordBytes (b .statements) (b .count) (c .before .loop .inv) (c .loop-test .left),
-      all-stored recordBytes (b .statements) (b .count) (c .before .loop .inv) (c .loop-test .left),
+      behind recordBytes (b .statements) (b .count) (c .before .loop .inv) (omega arith),
+      all-stored recordBytes (b .statements) (b .count) (c .before .loop .inv) (omega arith),
     )
 
 pub write-statements-spec : {M : Type 1} → statement M

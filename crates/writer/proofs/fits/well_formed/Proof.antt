@@ -1,12 +1,12 @@
 -- `fits::well_formed` meets its contract: the tests of the operation and of the operands that it wants.
+use native.Mathlib.Omega.{arith}
 use borrow.Author.Tests.{le-leb, lt-leb, eq-eqb, ne-eqb}
 use borrow.Author.Needs.{needs}
 use Rattle.writer.proofs.fits.well_formed.Statement.{statement}
 use Rattle.writer.proofs.fits.well_formed.Tie as tie
 
 returns : tie.Need-returns
-returns c =
-    simp (lt-leb _ _ (c .if1 .taken))
+returns c = simp (lt-leb (c .before .before .args .statement .operation) 7 (omega arith))
 
 is-operand-requires : tie.Need-is-operand-requires
 is-operand-requires c κs = search needs
