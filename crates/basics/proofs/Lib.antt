@@ -3,4 +3,7 @@ pub mod Counting
 pub mod Sets
 pub mod Slots
 pub mod Lists
+pub mod Mapped
 pub mod Parts
+pub mod Remaining
+pub mod Stores
