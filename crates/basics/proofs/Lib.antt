@@ -1,7 +1,6 @@
 pub mod Tests
 pub mod Counting
 pub mod Sets
-pub mod Slots
 pub mod Lists
 pub mod Mapped
 pub mod Parts

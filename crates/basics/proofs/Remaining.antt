@@ -2,7 +2,7 @@
 use mathlib.Core.Path.{_≡_}
 use mathlib.Core.Bool.{Bool, true, false}
 use mathlib.Core.List.{List, [], _∷_}
-use Prim.Native.Nat.{ℕ, _+_, _≤_, _<_}
+use Prim.Native.Nat.{ℕ, _+_, _≤_, _<_, min}
 use native.Mathlib.Omega.{arith}
 use native.Mathlib.Numerals.{add-one}
 use lib.ListN.{length, getD, take, drop, length-take, drop-of-length-le}
@@ -15,10 +15,11 @@ module _ {ℓ} {A : Type ℓ} where
       let inside : i < length (take n l) = omega (arith, length-take n l) in
       rw (add-one, drop-cons (take n l) i d inside, getD-take n l i d low)
 
+  pub none-within : (l : List A) (n i : ℕ) → min n (length l) ≤ i → drop i (take n l) ≡ []
+  none-within l n i past = drop-of-length-le (take n l) {i = i} (omega (arith, length-take n l))
+
   pub no-more : (l : List A) (n i : ℕ) → n ≤ i → drop i (take n l) ≡ []
-  no-more l n i past =
-      let outside : length (take n l) ≤ i = omega (arith, length-take n l) in
-      drop-of-length-le (take n l) outside
+  no-more l n i past = none-within l n i (omega arith)
 
   -- a test over all of them: it goes on where one passes, is decided where one fails, and is passed when none is left
   module _ (test : A → Bool) (l : List A) (n i : ℕ) where

@@ -1,8 +1,7 @@
 -- A block's price and its run, one statement at a time.
 use mathlib.Core.Path.{_≡_, refl}
-use Prim.Native.Nat.{ℕ, _+_}
+use Prim.Native.Nat.{_+_}
 use mathlib.Core.List.{List, [], _∷_}
-use Rattle.basics.specs.Lists.{each}
 use Rattle.meaning.specs.declared.Statement.{Statement}
 use Rattle.meaning.specs.Block.{statementPrice, blockPrice}
 

@@ -5,7 +5,9 @@ ghost use Prim.Native.Nat.{min, _≤_};
 ghost use Rattle.meaning.specs.Block.{declared, statementPrice, blockPrice, cellPlace, cellOperand};
 ghost use Rattle.basics.specs.Lists.{each};
 ghost use Rattle.meaning.specs.Machine.{runStatement};
+ghost use Rattle.meaning.specs.Calls.{runBlockCall};
 ghost use Rattle.memory.specs.Lent.{lent};
+ghost use Rattle.run_block.specs.Answers.{answer, afterReading};
 use meaning::Block;
 use meaning::Operand;
 use meaning::Place;
@@ -67,11 +69,63 @@ fn run_statements(block: Block, lengths: &[u16], variables: &mut [u32], cells: &
     ensures { λ r. ⌜ lent (now (variables .exit)) (now (cells .exit))
         ≡ each (runStatement (now (lengths .entry))) (declared block .statements) (lent (now (variables .entry)) (now (cells .entry))) ⌝ }
 {
-    let n = at_most(block.count, 64);
+    let end = at_most(block.count, 64);
     let mut i: usize = 0;
-    while i < n {
+    while i < end {
         let s = block.statements[i];
         memory::run_statement(s, lengths, variables, cells);
         i += 1;
     }
+}
+
+// What running returns: zeros beside a refusal, else the price paid.
+pub struct Ran {
+    pub status: u8,
+    pub price: usize,
+}
+
+// "variables or cells lent are not exactly as many as declared" is 6; then the run.
+fn run_sized(block: Block, lengths: &[u16], variables: &mut [u32], cells: &mut [u32]) -> Ran
+    requires { ⌜ now lengths ≡ declared block .lengths ⌝ }
+    ensures { λ r. ⌜ answer r (lent (now (variables .exit)) (now (cells .exit)))
+        ≡ afterReading (declared block) (lent (now (variables .entry)) (now (cells .entry))) ⌝ }
+{
+    let refused = Ran {
+        status: 6,
+        price: 0,
+    };
+    if variables.len() != block.variables as usize {
+        return refused;
+    }
+    if cells.len() != memory::cell_at(lengths, block.arrays, 0) {
+        return refused;
+    }
+    run_statements(block, lengths, variables, cells);
+    Ran {
+        status: 0,
+        price: block_price(block),
+    }
+}
+
+fn run_read(block: Block, variables: &mut [u32], cells: &mut [u32]) -> Ran
+    ensures { λ r. ⌜ answer r (lent (now (variables .exit)) (now (cells .exit)))
+        ≡ afterReading (declared block) (lent (now (variables .entry)) (now (cells .entry))) ⌝ }
+{
+    let lengths = block.lengths;
+    let arrays = at_most(block.arrays, 8);
+    run_sized(block, &lengths[..arrays], variables, cells)
+}
+
+// "Running: block, 6": nothing lent is written before both are tested.
+pub fn run_block(bytes: &[u8], variables: &mut [u32], cells: &mut [u32]) -> Ran
+    ensures { λ r. ⌜ answer r (lent (now (variables .exit)) (now (cells .exit)))
+        ≡ runBlockCall (now (bytes .entry)) (lent (now (variables .entry)) (now (cells .entry))) ⌝ }
+{
+    let read = reader::read_block(bytes);
+    let status = read.status;
+    if status != 0 {
+        return Ran { status, price: 0 };
+    }
+    let block = read.block;
+    run_read(block, variables, cells)
 }

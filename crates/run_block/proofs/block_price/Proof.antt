@@ -1,10 +1,11 @@
 -- `run_block::block_price` meets its contract. What remains at i: the price of the statements from i on.
 use borrow.Author.Needs.{needs}
-use mathlib.Core.Path.{_≡_, _∙_, ap, sym}
+use mathlib.Core.Path.{_≡_, _∙_, ap}
 use Prim.Native.Nat.{_+_, _-_, _*_, _≤_, zero-le}
 use native.Mathlib.Omega.{arith}
-use lib.ListN.{length, take, drop, getD, length-map}
-use Rattle.basics.proofs.Slots.{one-slot, no-slot}
+use lib.ListN.{length, take, drop}
+use Rattle.basics.proofs.Mapped.{unmapped}
+use Rattle.basics.proofs.Remaining.{still, none-within}
 use Rattle.meaning.specs.Block.{blockPrice, blank}
 use Rattle.run_block.proofs.Clauses.{price-none, price-more}
 use Rattle.run_block.proofs.block_price.Statement.{statement}
@@ -46,8 +47,8 @@ loop-again c =
     let start = c .before .before .before .before .before in
     let b = start .args .t1 in
     let i = c .before .before .before .loop .i in
-    let sized : length (b .statements) ≡ 64 = sym (length-map (b .statements) _) ∙ start .good .0 .1 .1 .1 .1 .1 .1 .1 .0 .1 .0 .1 in
-    let here = ap blockPrice (one-slot (b .statements) (b .count) i blank (omega arith)) ∙ price-more _ _ in
+    let sized : length (b .statements) ≡ 64 = search (needs, unmapped) in
+    let here = ap blockPrice (still (b .statements) (b .count) i blank (omega arith) (omega arith)) ∙ price-more _ _ in
     (omega arith, omega arith, omega (arith, here))
 
 returns : tie.Need-returns Inv-loop μ-loop
@@ -55,8 +56,8 @@ returns c =
     let start = c .before .before .before in
     let b = start .args .t1 in
     let i = c .before .loop .i in
-    let sized : length (b .statements) ≡ 64 = sym (length-map (b .statements) _) ∙ start .good .0 .1 .1 .1 .1 .1 .1 .1 .0 .1 .0 .1 in
-    omega (arith, ap blockPrice (no-slot (b .statements) (b .count) i (omega arith)) ∙ price-none)
+    let sized : length (b .statements) ≡ 64 = search (needs, unmapped) in
+    omega (arith, ap blockPrice (none-within (b .statements) (b .count) i (omega arith)) ∙ price-none)
 
 pub block-price-spec : {M : Type 1} → statement M
 block-price-spec =

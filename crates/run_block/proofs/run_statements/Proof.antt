@@ -3,9 +3,10 @@ use borrow.Author.Needs.{needs}
 use mathlib.Core.Path.{_≡_, _∙_, ap, sym, refl}
 use Prim.Native.Nat.{_+_, _-_, _≤_, zero-le}
 use native.Mathlib.Omega.{arith}
-use lib.ListN.{length, take, drop, getD, length-map}
+use lib.ListN.{length, take, drop}
 use Rattle.basics.specs.Lists.{each}
-use Rattle.basics.proofs.Slots.{one-slot, no-slot}
+use Rattle.basics.proofs.Mapped.{unmapped}
+use Rattle.basics.proofs.Remaining.{still, none-within}
 use Rattle.meaning.specs.Block.{blank}
 use Rattle.meaning.specs.Machine.{Contents, runStatement}
 use Rattle.memory.specs.Lent.{lent}
@@ -13,13 +14,13 @@ use Rattle.run_block.proofs.run_statements.Statement.{statement}
 use Rattle.run_block.proofs.run_statements.Tie as tie
 
 abbrev Inv-loop : tie.InvT-loop
-Inv-loop lengths variables₀ cells₀ block n i₀ variables cells i =
-    (i ≤ n) × (length variables ≡ length variables₀) × (length cells ≡ length cells₀)
+Inv-loop lengths variables₀ cells₀ block end i₀ variables cells i =
+    (i ≤ end) × (length variables ≡ length variables₀) × (length cells ≡ length cells₀)
     × (each (runStatement lengths) (take (block .count) (block .statements)) (lent variables₀ cells₀)
     ≡ each (runStatement lengths) (drop i (take (block .count) (block .statements))) (lent variables cells))
 
 abbrev μ-loop : tie.MeasureT-loop
-μ-loop lengths variables₀ cells₀ block n i₀ variables cells i = n - i
+μ-loop lengths variables₀ cells₀ block end i₀ variables cells i = end - i
 
 at-most-requires : tie.Need-at-most-requires Inv-loop μ-loop
 at-most-requires c κs = search needs
@@ -48,13 +49,13 @@ loop-again c =
     let start = at-loop .before .before .before .before .before in
     let b = start .args .t1 in
     let i = at-loop .loop .i in
-    let sized : length (b .statements) ≡ 64 = sym (length-map (b .statements) _) ∙ start .good .0 .1 .1 .1 .1 .1 .1 .1 .0 .1 .0 .1 in
+    let sized : length (b .statements) ≡ 64 = search (needs, unmapped) in
     let behind = drop (i + 1) (take (b .count) (b .statements)) in (
       omega arith,
       search needs,
       search needs,
       at-loop .loop .inv .3
-          ∙ rw (one-slot (b .statements) (b .count) i blank (omega arith))
+          ∙ rw (still (b .statements) (b .count) i blank (omega arith) (omega arith))
           (ap (λ (m : Contents). each (runStatement (start .args .lengths .now)) behind m) (sym (c .before .before .before .before .run-statement .ensures))),
     )
 
@@ -68,8 +69,8 @@ returns : tie.Need-returns Inv-loop μ-loop
 returns c =
     let start = c .before .before .before .before .before .before in
     let b = start .args .t1 in
-    let sized : length (b .statements) ≡ 64 = sym (length-map (b .statements) _) ∙ start .good .0 .1 .1 .1 .1 .1 .1 .1 .0 .1 .0 .1 in
-    sym (c .before .loop .inv .3 ∙ rw (no-slot (b .statements) (b .count) (c .before .loop .i) (omega arith)))
+    let sized : length (b .statements) ≡ 64 = search (needs, unmapped) in
+    sym (c .before .loop .inv .3 ∙ rw (none-within (b .statements) (b .count) (c .before .loop .i) (omega arith)))
 
 pub run-statements-spec : {M : Type 1} → statement M
 run-statements-spec =
