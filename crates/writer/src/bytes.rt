@@ -1,7 +1,6 @@
 // The bytes of a block, put into the room one after the other: each function puts its own from a
 // position on, where the room has space for them, and returns the position behind them.
 
-use crate::sizes::statement_width;
 use meaning::Block;
 use meaning::Operand;
 use meaning::Place;
@@ -68,7 +67,7 @@ fn write_record(statement: Statement, room: &mut [u8], at: usize) -> usize
     let destination = statement.destination;
     let left = statement.left;
     let right = statement.right;
-    room[at] = statement_width(statement) as u8;
+    room[at] = reader::statement_width(statement) as u8;
     room[at + 1] = statement.operation;
     let behind_destination = write_place(destination, room, at + 2);
     let behind_left = write_operand(left, room, behind_destination);

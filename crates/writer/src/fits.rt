@@ -2,13 +2,11 @@
 // (4).
 
 use meaning::Block;
-use meaning::Operand;
-use meaning::Statement;
 ghost use mathlib.Core.Path.{_≡_};
 ghost use Prim.Native.Nat.{_≤_};
 ghost use lib.ListN.{take};
 ghost use Rattle.basics.specs.Lists.{all};
-ghost use Rattle.meaning.specs.Format.{countsFit, lengthFits, isOperand, wellFormed};
+ghost use Rattle.meaning.specs.Format.{countsFit, lengthFits, wellFormed};
 
 // "a count .. over its limit .. or live-out above variables"
 pub fn counts_fit(variables: u8, live: u8, arrays: u8, count: u8) -> bool
@@ -52,37 +50,6 @@ pub fn lengths_fit(block: Block) -> bool
     true
 }
 
-fn is_operand(operand: Operand) -> bool
-    ensures { λ r. ⌜ r ≡ isOperand operand ⌝ }
-{
-    match operand {
-        Operand::Nothing => false,
-        Operand::Constant(_) => true,
-        Operand::Held(_) => true,
-    }
-}
-
-// An operation up to 7, a left operand, and a right one except for copy.
-fn well_formed(statement: Statement) -> bool
-    ensures { λ r. ⌜ r ≡ wellFormed statement ⌝ }
-{
-    let left = statement.left;
-    let right = statement.right;
-    if 7 < statement.operation {
-        return false;
-    }
-    if is_operand(left) {
-        if statement.operation == 0 {
-            if is_operand(right) {
-                return false;
-            }
-            return true;
-        }
-        return is_operand(right);
-    }
-    false
-}
-
 // Every declared statement is well formed.
 pub fn all_well_formed(block: Block) -> bool
     requires { ⌜ block .count ≤ 64 ⌝ }
@@ -92,7 +59,7 @@ pub fn all_well_formed(block: Block) -> bool
     let mut i = 0;
     while i < count {
         let statement = block.statements[i];
-        if well_formed(statement) {
+        if reader::well_formed(statement) {
             i += 1;
         } else {
             return false;

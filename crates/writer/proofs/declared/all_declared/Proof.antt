@@ -45,15 +45,15 @@ loop-less c = omega arith
 
 loop-again : tie.Need-loop-again Inv-loop μ-loop
 loop-again c =
-    let b = c .before .before .before .before .before .before .args .t1 in
-    let at = c .before .before .before .before .loop in
+    let b = c .before .before .before .before .before .before .before .args .t1 in
+    let at = c .before .before .before .before .before .loop in
     let passes = sym (c .before .declares-statement .ensures) ∙ c .if1 .taken in
     (omega arith, omega arith, at .inv .2 ∙ all-still (declaresStatement (b .variables) (take (b .arrays) (b .lengths))) (b .statements) (b .count) (at .i) blank (omega arith) (omega arith) passes)
 
 returns : tie.Need-returns Inv-loop μ-loop
 returns c =
-    let b = c .before .before .before .before .before .before .args .t1 in
-    let at = c .before .before .before .before .loop in
+    let b = c .before .before .before .before .before .before .before .args .t1 in
+    let at = c .before .before .before .before .before .loop in
     let fails = sym (c .before .declares-statement .ensures) ∙ c .if1 .left in
     sym (at .inv .2 ∙ all-fails (declaresStatement (b .variables) (take (b .arrays) (b .lengths))) (b .statements) (b .count) (at .i) blank (omega arith) (omega arith) fails)
 
