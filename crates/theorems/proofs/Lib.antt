@@ -9,3 +9,6 @@ pub mod Instructions
 pub mod ListRoundTrip
 pub mod Determined
 pub mod AreBytes
+pub mod Puts
+pub mod Cells
+pub mod View
