@@ -12,3 +12,5 @@ pub mod AreBytes
 pub mod Puts
 pub mod Cells
 pub mod View
+pub mod Occurs
+pub mod Orders
