@@ -14,3 +14,4 @@ pub mod Cells
 pub mod View
 pub mod Occurs
 pub mod Orders
+pub mod Strokes
