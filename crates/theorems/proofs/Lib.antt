@@ -15,3 +15,8 @@ pub mod View
 pub mod Occurs
 pub mod Orders
 pub mod Strokes
+pub mod Totals
+pub mod Chains
+pub mod Pairs
+pub mod Pairing
+pub mod Combination
