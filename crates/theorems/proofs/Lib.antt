@@ -20,3 +20,7 @@ pub mod Chains
 pub mod Pairs
 pub mod Pairing
 pub mod Combination
+pub mod Waiting
+pub mod Ready
+pub mod Schedule
+pub mod ScheduleRuns
