@@ -120,8 +120,8 @@ module _ (ss : List Statement) where
     where
       either : (test : Bool) → occurs t (flat (cut ss rest)) ≡ occurs t rest → occurs t (flat (cut ss (c ∷ d ∷ rest))) ≡ occurs t (c ∷ d ∷ rest)
           → occurs t (flat (elim test [ true ↦ (a ∷ b ∷ c ∷ d ∷ []) ∷ cut ss rest | false ↦ (a ∷ b ∷ []) ∷ cut ss (c ∷ d ∷ rest) ])) ≡ occurs t (a ∷ b ∷ c ∷ d ∷ rest)
-      either true after-four after-two = ap (λ (n : ℕ). pick (eqb t a) 1 0 + (pick (eqb t b) 1 0 + (pick (eqb t c) 1 0 + (pick (eqb t d) 1 0 + n)))) after-four
-      either false after-four after-two = ap (λ (n : ℕ). pick (eqb t a) 1 0 + (pick (eqb t b) 1 0 + n)) after-two
+      either true after-four after-two = omega arith
+      either false after-four after-two = omega arith
 
   module _ (pairs : List Pair) (known : Admitted ss pairs) where
     chain-linked : {s : ℕ} {c : List ℕ} → Chain pairs s c → Linked (Joined ss) c
