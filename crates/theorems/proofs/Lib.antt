@@ -12,3 +12,11 @@ pub mod AreBytes
 pub mod Puts
 pub mod Cells
 pub mod View
+pub mod Landing
+pub mod Steps
+pub mod Sums
+pub mod Prices
+pub mod Rows
+pub mod Named
+pub mod Allowed
+pub mod Limits
