@@ -20,3 +20,5 @@ pub mod Rows
 pub mod Named
 pub mod Allowed
 pub mod Limits
+pub mod Fields
+pub mod Lawful

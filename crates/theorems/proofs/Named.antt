@@ -34,7 +34,7 @@ pub tuple-all : (ss : List Statement) (test : Operand → Bool) (tuple : List Op
     → Tuple ss tuple → all test tuple ≡ true
 tuple-all ss test tuple h t = ap (all test) (t .is) ∙ tuple-passes ss test (t .position) (h (t .position)) (t .unit) (t .there)
 
-in-block : (ss : List Statement) (position : Position) (s : ℕ) → hasOperand ss position s ≡ true → s < length ss
+pub in-block : (ss : List Statement) (position : Position) (s : ℕ) → hasOperand ss position s ≡ true → s < length ss
 in-block ss left s e = ltb-true s (length ss) e
 in-block ss right s e = ltb-true s (length ss) (and-left (ltb s (length ss)) _ e)
 
@@ -42,7 +42,7 @@ module _ (b : Block) (readable : Readable b) where
   formed-at : (s : ℕ) → s < length (b .statements) → wellFormed (statement (b .statements) s) ≡ true
   formed-at s below = all-at wellFormed (b .statements) s blank (readable .formed) below
 
-  declares-at : (s : ℕ) → s < length (b .statements) → declaresStatement (b .variables) (b .lengths) (statement (b .statements) s) ≡ true
+  pub declares-at : (s : ℕ) → s < length (b .statements) → declaresStatement (b .variables) (b .lengths) (statement (b .statements) s) ≡ true
   declares-at s below = all-at (declaresStatement (b .variables) (b .lengths)) (b .statements) s blank (readable .declares) below
 
   pub operation-known : (s : ℕ) → s < length (b .statements) → leb (statement (b .statements) s .operation) 7 ≡ true
