@@ -22,3 +22,8 @@ pub mod Allowed
 pub mod Limits
 pub mod Fields
 pub mod Lawful
+pub mod Seen
+pub mod Current
+pub mod Simulation
+pub mod Mirror
+pub mod Outcome

@@ -1,3 +1,4 @@
 pub mod Memory
 pub mod Units
 pub mod Steps
+pub mod Machine
