@@ -26,4 +26,6 @@ pub mod Seen
 pub mod Current
 pub mod Simulation
 pub mod Mirror
+pub mod Footprint
+pub mod Frames
 pub mod Outcome
