@@ -29,3 +29,5 @@ pub mod Mirror
 pub mod Footprint
 pub mod Frames
 pub mod Outcome
+pub mod LentFrames
+pub mod Faithful
