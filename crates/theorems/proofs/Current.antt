@@ -63,11 +63,12 @@ pub current-ended : (m : Memory) (p : Place) (n : ℕ) (registers : List Registe
 current-ended m p n [] [] c = tt
 current-ended m p n [] (lanes ∷ others) c = absurd c
 current-ended m p n (r ∷ registers) [] c = absurd c
-current-ended m p n (r ∷ registers) (lanes ∷ others) c =
-    (λ still.
-    c .0 (and-left (r .current) _ still)
-    ∙ sym (values-stay m p n (r .tuple) (not-true (any (λ o. names o p) (r .tuple)) (and-right (r .current) _ still))),
-    current-ended m p n registers others (c .1))
+current-ended m p n (r ∷ registers) (lanes ∷ others) c = (
+  λ still.
+      c .0 (and-left (r .current) _ still)
+      ∙ sym (values-stay m p n (r .tuple) (not-true (any (λ o. names o p) (r .tuple)) (and-right (r .current) _ still))),
+  current-ended m p n registers others (c .1),
+)
 
 pub current-endedBy : (ps : List Place) (values : List ℕ) (m : Memory) (registers : List Register) (all-lanes : List (List ℕ)) → length values ≡ length ps
     → Current m registers all-lanes → Current (putEach ps values m) (endedBy ps registers) all-lanes

@@ -38,7 +38,7 @@ list-called bytes b m list e right lawful =
     ap (λ (answer : Answer Block). ran m (andThen (andThen answer (λ x. demand (rightSize x m) 6 (done x))) (beside (listBytes list) m))) e
     ∙ ap (λ (test : Bool). ran m (andThen (demand test 6 (done b)) (beside (listBytes list) m))) right
     ∙ ap (λ (found : Option (List Instruction)). ran m (andThen (listOf found) (listed m b))) (lawful-back b list lawful)
-    ∙ ap (λ (test : Bool). ran m (demand test 9 (done (listPrice (b .statements) list, runList b list m)))) (lawful .allowed)
+    ∙ ap (λ (test : Bool). ran m (demand test 9 (done (listPrice (b .statements) list, runList b list m)))) (lawful .permitted)
 
 -- Nor is running the block, which pays the block's price.
 pub block-called : (bytes : List ℕ) (b : Block) (m : Contents) → readBlock bytes ≡ done b → rightSize b m ≡ true

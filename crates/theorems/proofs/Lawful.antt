@@ -44,13 +44,13 @@ units-size ss units u =
 
 -- within the rules: "at most 160" instructions, each of which fits, fields that fit their bytes, and nothing named against the rules
 pub record Lawful (b : Block) (list : List Instruction) : Type 0 where
-  pub allowed : allowed b [] list ≡ true
+  pub permitted : allowed b [] list ≡ true
   pub fits : ListFits list
   pub fields : all fieldsFit list ≡ true
 
-lawful-from : (b : Block) (list : List Instruction) → Readable b → Rattle.meaning.specs.List.allowed b [] list ≡ true → length list ≤ 160 → all instructionFits list ≡ true → Lawful b list
+lawful-from : (b : Block) (list : List Instruction) → Readable b → allowed b [] list ≡ true → length list ≤ 160 → all instructionFits list ≡ true → Lawful b list
 lawful-from b list readable may short fit =
-    record { allowed = may; fits = record { count = short; fit = fit }; fields = fields-fit b readable list may fit }
+    record { permitted = may; fits = record { count = short; fit = fit }; fields = fields-fit b readable list may fit }
 
 -- the packed list
 module _ (b : Block) (readable : Readable b) (constants : all constantsFit (b .statements) ≡ true) (u : Units (b .statements) (scheduledUnits (b .statements))) where
@@ -76,8 +76,8 @@ plain-fits : (n i : ℕ) → all instructionFits (plainFrom n i) ≡ true
 plain-fits zero i = refl
 plain-fits (suc n) i = plain-fits n (i + 1)
 
-plain-allowed : (b : Block) (n i : ℕ) → i + n ≤ length (b .statements) → Rattle.meaning.specs.List.allowed b [] (plainFrom n i) ≡ true
-unfolding Rattle.meaning.specs.List.allowed
+plain-allowed : (b : Block) (n i : ℕ) → i + n ≤ length (b .statements) → allowed b [] (plainFrom n i) ≡ true
+unfolding allowed
 plain-allowed b zero i h = refl
 plain-allowed b (suc n) i h = and-both (ltb i (length (b .statements))) _ (lt-ltb i (length (b .statements)) (omega arith)) (plain-allowed b n (i + 1) (omega arith))
 

@@ -55,8 +55,8 @@ extract-sound b n units e v h found s =
     let i = X (h .register) (h .lane) v in
     let this : h .variable ≡ v = eqb-true (h .variable) v (first-passes (isHome v) (e .homes) h found) in
     let there : isAllowed b (widths (e .registers)) i ≡ true =
-        subst (λ (w : ℕ). isAllowed b (widths (e .registers)) (X (h .register) (h .lane) w) ≡ true) this
-        (first-all (isHome v) (homeFits b (widths (e .registers))) (e .homes) h found (s .homes)) in
+    subst (λ (w : ℕ). isAllowed b (widths (e .registers)) (X (h .register) (h .lane) w) ≡ true) this
+    (first-all (isHome v) (homeFits b (widths (e .registers))) (e .homes) h found (s .homes)) in
     record {
       lanes = each-append _ (e .instructions) (i ∷ []) [] ∙ s .lanes;
       homes = all-keep (λ x. not (isHome v x)) (homeFits b (widths (e .registers))) (e .homes) (s .homes);
@@ -111,7 +111,7 @@ module _ (b : Block) (readable : Readable b) (constants-are : all constantsFit (
       → Sound b n units e → Sound b (suc n) units (hold tuple (emit i e))
   load-sound n units e tuple i t l s =
       let wider : widths (e .registers ++ holding tuple ∷ []) ≡ widths (e .registers) ++ length tuple ∷ [] =
-          map-append (λ (r : Register). length (r .tuple)) (e .registers) (holding tuple ∷ []) in
+      map-append (λ (r : Register). length (r .tuple)) (e .registers) (holding tuple ∷ []) in
       let longer = length-append (e .registers) (holding tuple ∷ []) in
       record {
         lanes =
@@ -211,7 +211,7 @@ module _ (b : Block) (readable : Readable b) (constants-are : all constantsFit (
         let o = O (next e) (operationOf (b .statements) unit) (length unit) ra rb in
         let kept = stores (next e) (destinations (b .statements) unit) (rowStart (destinations (b .statements) unit)) in
         let written-then : writtenBy (e .instructions ++ o ∷ []) [] ≡ widths (e .registers) ++ length unit ∷ [] =
-            each-append _ (e .instructions) (o ∷ []) [] ∙ ap (λ (so-far : List ℕ). so-far ++ length unit ∷ []) (s .lanes) in
+        each-append _ (e .instructions) (o ∷ []) [] ∙ ap (λ (so-far : List ℕ). so-far ++ length unit ∷ []) (s .lanes) in
         record {
           lanes =
               each-append _ (e .instructions ++ o ∷ []) kept []

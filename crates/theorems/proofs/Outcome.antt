@@ -39,7 +39,7 @@ module _ (b : Block) (readable : Readable b) (lent : Contents) (right : rightSiz
       → SameOutcome b (runList b list lent) (runBlock b lent)
   outcome-by-memory list lawful runs =
       record {
-        cells = cells-faithful b (runList b list lent) (runBlock b lent) (size-list b readable list lent (lawful .allowed) right) (size-block b lent right) (λ a i. at (Cell a i) refl);
+        cells = cells-faithful b (runList b list lent) (runBlock b lent) (size-list b readable list lent (lawful .permitted) right) (size-block b lent right) (λ a i. at (Cell a i) refl);
         live = λ v below.
             let declared : v < b .variables = omega (arith, readable .live) in
             sym (variable-seen b (runList b list lent) v declared) ∙ at (Variable v) (lt-ltb v (b .live) below) ∙ variable-seen b (runBlock b lent) v declared;
@@ -47,7 +47,7 @@ module _ (b : Block) (readable : Readable b) (lent : Contents) (right : rightSiz
     where
       at : (p : Place) → looksAt (b .live) p ≡ true → view b (runList b list lent) p ≡ view b (runBlock b lent) p
       at p looked =
-          ap (λ (m : Memory). m p) (view-list b readable list lent (lawful .allowed) right) ∙ runs p looked ∙ sym (ap (λ (m : Memory). m p) (view-block b lent readable right))
+          ap (λ (m : Memory). m p) (view-list b readable list lent (lawful .permitted) right) ∙ runs p looked ∙ sym (ap (λ (m : Memory). m p) (view-block b lent readable right))
 
 -- S for every statement in block order
 pub plain-outcome : (b : Block) → Readable b → (lent : Contents) → rightSize b lent ≡ true → SameOutcome b (runList b (plainList b) lent) (runBlock b lent)

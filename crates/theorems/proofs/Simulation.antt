@@ -105,9 +105,9 @@ unfolding written
 agrees-single ss target c e s l r a =
     let this = statement ss s in
     let same-result : result (c .memory) this ≡ result target this =
-        ap₂ (operate (this .operation))
-        (sym (seen-operand (c .memory) (c .registers) (e .homes) (this .left) l) ∙ ap (λ (m : Memory). value m (this .left)) (a .sees))
-        (sym (seen-operand (c .memory) (c .registers) (e .homes) (this .right) r) ∙ ap (λ (m : Memory). value m (this .right)) (a .sees)) in
+    ap₂ (operate (this .operation))
+    (sym (seen-operand (c .memory) (c .registers) (e .homes) (this .left) l) ∙ ap (λ (m : Memory). value m (this .left)) (a .sees))
+    (sym (seen-operand (c .memory) (c .registers) (e .homes) (this .right) r) ∙ ap (λ (m : Memory). value m (this .right)) (a .sees)) in
     record {
       sees =
           sym (seen-put (c .memory) (c .registers) (e .homes) (this .destination) (result (c .memory) this))
