@@ -49,11 +49,6 @@ module _ {ℓ} {A : Type ℓ} (test : A → Bool) where
       by true h = refl
       by false h = h
 
-module _ {ℓ κ} {A : Type ℓ} {B : Type κ} (f : A → B) where
-  pub all-map : (test : B → Bool) (xs : List A) → all test (map f xs) ≡ all (λ x. test (f x)) xs
-  all-map test [] = refl
-  all-map test (x ∷ xs) = rw (all-map test xs)
-
 -- one list behind another
 pub each-append {ℓ κ} : {A : Type ℓ} {S : Type κ} (f : A → S → S) (xs ys : List A) (s : S) → each f (xs ++ ys) s ≡ each f ys (each f xs s)
 each-append f [] ys s = refl
