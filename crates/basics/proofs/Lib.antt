@@ -6,3 +6,4 @@ pub mod Mapped
 pub mod Parts
 pub mod Remaining
 pub mod Stores
+pub mod Finding
