@@ -2,3 +2,4 @@ pub mod Tests
 pub mod Counting
 pub mod Sets
 pub mod Slots
+pub mod Parts

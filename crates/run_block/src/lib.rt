@@ -6,7 +6,6 @@ ghost use Rattle.meaning.specs.Block.{declared, statementPrice, blockPrice, cel
 ghost use Rattle.basics.specs.Lists.{each};
 ghost use Rattle.meaning.specs.Machine.{runStatement};
 ghost use Rattle.memory.specs.Lent.{lent};
-
 use meaning::Block;
 use meaning::Operand;
 use meaning::Place;

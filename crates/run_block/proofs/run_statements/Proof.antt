@@ -49,13 +49,14 @@ loop-again c =
     let b = start .args .t1 in
     let i = at-loop .loop .i in
     let sized : length (b .statements) ≡ 64 = sym (length-map (b .statements) _) ∙ start .good .0 .1 .1 .1 .1 .1 .1 .1 .0 .1 .0 .1 in
-    let behind = drop (i + 1) (take (b .count) (b .statements)) in
-    (omega arith,
-    search needs,
-    search needs,
-    at-loop .loop .inv .3
-    ∙ rw (one-slot (b .statements) (b .count) i blank (omega arith))
-    (ap (λ (m : Contents). each (runStatement (start .args .lengths .now)) behind m) (sym (c .before .before .before .before .run-statement .ensures))))
+    let behind = drop (i + 1) (take (b .count) (b .statements)) in (
+      omega arith,
+      search needs,
+      search needs,
+      at-loop .loop .inv .3
+          ∙ rw (one-slot (b .statements) (b .count) i blank (omega arith))
+          (ap (λ (m : Contents). each (runStatement (start .args .lengths .now)) behind m) (sym (c .before .before .before .before .run-statement .ensures))),
+    )
 
 same-length : tie.Need-same-length Inv-loop μ-loop
 same-length c = search needs

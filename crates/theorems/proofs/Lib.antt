@@ -1,0 +1,11 @@
+pub mod Bytes
+pub mod Header
+pub mod Operands
+pub mod Reading
+pub mod Records
+pub mod Readable
+pub mod BlockRoundTrip
+pub mod Instructions
+pub mod ListRoundTrip
+pub mod Determined
+pub mod AreBytes
