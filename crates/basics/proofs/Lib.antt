@@ -3,3 +3,4 @@ pub mod Counting
 pub mod Sets
 pub mod Slots
 pub mod Parts
+pub mod Lists

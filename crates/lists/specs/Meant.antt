@@ -5,7 +5,8 @@ use mathlib.Core.List.{List, [], _∷_}
 use mathlib.Core.Bool.{_&&_}
 use lib.Dec.{eqb, leb}
 use lib.ListN.{length, take}
-use Rattle.meaning.specs.List.{Instruction as Meaning, form, field, lanesFit}
+use Rattle.meaning.specs.declared.Operand.{Operand}
+use Rattle.meaning.specs.List.{Instruction as Meaning, form, field, lanesFit, operandsFill}
 use Rattle.meaning.specs.List as List
 use Rattle.lists.specs.declared.Instruction.{Instruction}
 use Rattle.lists.specs.declared.Instruction.the-variants.{Broken, S, L, C, G, Copy, O, W, D, X}
@@ -30,3 +31,7 @@ abbrev pub readTwo : List ℕ → Option Meaning
 readTwo bytes =
     form (eqb (length bytes) 6 && lanesFit (field 3 bytes) && leb (field 2 bytes) 7)
     (List.O (field 1 bytes) (field 2 bytes) (field 3 bytes) (field 4 bytes) (some (field 5 bytes)))
+
+-- G with these operands, where they fill its record
+abbrev pub gathered : List ℕ → List Operand → Option Meaning
+gathered bytes os = form (operandsFill bytes os) (List.G (field 1 bytes) os)

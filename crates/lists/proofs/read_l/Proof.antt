@@ -1,54 +1,45 @@
-use borrow.Author.Tests.{le-ltb, lt-ltb, le-leb, lt-leb, eq-eqb, ne-eqb}
+-- `lists::read_l` meets its contract.
+use borrow.Author.Tests.{eq-eqb, ne-eqb}
 use borrow.Author.Needs.{needs}
 use Rattle.lists.proofs.read_l.Statement.{statement}
 use Rattle.lists.proofs.read_l.Tie as tie
-use Rattle.lists.proofs.read_l.Reads as reads
-use Rattle.lists.proofs.read_l.Lts as lts
-use Rattle.lists.proofs.field.Reads as field-reads
-use Rattle.lists.proofs.lanes_fit.Reads as lanes-fit-reads
 
--- src/lib.rt:60:13
 field-requires : tie.Need-field-requires
 field-requires c κs = search needs
 
--- src/lib.rt:61:12
 lanes-fit-requires : tie.Need-lanes-fit-requires
 lanes-fit-requires c κs = search needs
 
--- src/lib.rt:62:40
 field-requires-2 : tie.Need-field-requires-2
 field-requires-2 c κs = search needs
 
--- src/lib.rt:62:67
 field-requires-3 : tie.Need-field-requires-3
 field-requires-3 c κs = search needs
 
--- src/lib.rt:62:91
 field-requires-4 : tie.Need-field-requires-4
 field-requires-4 c κs = search needs
 
--- src/lib.rt:62:13
 returns : tie.Need-returns
 returns c =
-    simp
-    (c .field4 .ensures,
-    ← c .before .field3 .ensures,
-    ← c .before .before .field2 .ensures,
-    c .before .before .before .if2 .taken,
-    ← c .before .before .before .before .lanes-fit .ensures,
-    ← c .before .before .before .before .before .field .ensures,
-    eq-eqb _ _ (c .before .before .before .before .before .before .if1 .taken))
+    simp (
+      c .field4 .ensures,
+      ← c .before .field3 .ensures,
+      ← c .before .before .field2 .ensures,
+      c .before .before .before .if2 .taken,
+      ← c .before .before .before .before .lanes-fit .ensures,
+      ← c .before .before .before .before .before .field .ensures,
+      eq-eqb _ _ (c .before .before .before .before .before .before .if1 .taken),
+    )
 
--- src/lib.rt:56:1
 returns-2 : tie.Need-returns-2
 returns-2 c =
-    simp
-    (c .if2 .left,
-    ← c .before .lanes-fit .ensures,
-    ← c .before .before .field .ensures,
-    eq-eqb _ _ (c .before .before .before .if1 .taken))
+    simp (
+      c .if2 .left,
+      ← c .before .lanes-fit .ensures,
+      ← c .before .before .field .ensures,
+      eq-eqb _ _ (c .before .before .before .if1 .taken),
+    )
 
--- src/lib.rt:56:1
 returns-3 : tie.Need-returns-3
 returns-3 c =
     simp

@@ -1,33 +1,27 @@
-use borrow.Author.Tests.{le-ltb, lt-ltb, le-leb, lt-leb, eq-eqb, ne-eqb}
+-- `lists::read_x` meets its contract.
+use borrow.Author.Tests.{eq-eqb, ne-eqb}
 use borrow.Author.Needs.{needs}
 use Rattle.lists.proofs.read_x.Statement.{statement}
 use Rattle.lists.proofs.read_x.Tie as tie
-use Rattle.lists.proofs.read_x.Reads as reads
-use Rattle.lists.proofs.read_x.Lts as lts
-use Rattle.lists.proofs.field.Reads as field-reads
 
--- src/lib.rt:93:36
 field-requires : tie.Need-field-requires
 field-requires c κs = search needs
 
--- src/lib.rt:93:59
 field-requires-2 : tie.Need-field-requires-2
 field-requires-2 c κs = search needs
 
--- src/lib.rt:93:86
 field-requires-3 : tie.Need-field-requires-3
 field-requires-3 c κs = search needs
 
--- src/lib.rt:93:9
 returns : tie.Need-returns
 returns c =
-    simp
-    (c .field3 .ensures,
-    ← c .before .field2 .ensures,
-    ← c .before .before .field .ensures,
-    eq-eqb _ _ (c .before .before .before .if1 .taken))
+    simp (
+      c .field3 .ensures,
+      ← c .before .field2 .ensures,
+      ← c .before .before .field .ensures,
+      eq-eqb _ _ (c .before .before .before .if1 .taken),
+    )
 
--- src/lib.rt:89:1
 returns-2 : tie.Need-returns-2
 returns-2 c =
     simp
