@@ -2,5 +2,8 @@ pub mod Tests
 pub mod Counting
 pub mod Sets
 pub mod Slots
-pub mod Parts
 pub mod Lists
+pub mod Mapped
+pub mod Parts
+pub mod Remaining
+pub mod Stores

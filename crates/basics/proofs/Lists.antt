@@ -2,7 +2,7 @@
 use mathlib.Core.Path.{_≡_, sym, ap, _∙_}
 use mathlib.Core.List.{List}
 use Prim.Native.Nat.{ℕ, zero, suc, _+_, _-_, _≤_}
-use native.Mathlib.Nat.{zero-add, sub-zero, suc-sub-suc}
+use native.Mathlib.Nat.{zero-add, sub-zero, zero-sub, suc-sub-suc}
 use native.Mathlib.Omega.{arith}
 use lib.ListN.{length, take, drop, replicate, length-drop, length-replicate}
 use lib.Seq.{take-all, sets, sets-eq}
@@ -15,7 +15,7 @@ module _ {ℓ} {A : Type ℓ} where
 
   pub drop-replicate : (n m : ℕ) (d : A) → drop m (replicate n d) ≡ replicate (n - m) d
   drop-replicate n zero d = ap (λ (k : ℕ). replicate k d) (sym (sub-zero n))
-  drop-replicate zero (suc m) d = rw native.Mathlib.Nat.zero-sub
+  drop-replicate zero (suc m) d = rw zero-sub
   drop-replicate (suc n) (suc m) d = drop-replicate n m d ∙ ap (λ (k : ℕ). replicate k d) (sym (suc-sub-suc n m))
 
   -- slots that are filled from the front, the others left as they were

@@ -20,10 +20,6 @@ pub and-both : (a b : Bool) → a ≡ true → b ≡ true → a && b ≡ true
 and-both true b p q = q
 and-both false b p q = p
 
-pub and-true : (a : Bool) → a && true ≡ a
-and-true true = refl
-and-true false = refl
-
 -- one part of a passed "or", and the ways back
 pub or-either : (a b : Bool) → a || b ≡ true → (a ≡ true) ⊎ (b ≡ true)
 or-either true b e = inl refl

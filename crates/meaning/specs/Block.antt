@@ -34,7 +34,7 @@ declared b =
 abbrev pub blank : Statement
 blank = record { operation = 0; destination = Variable 0; left = Nothing; right = Nothing }
 
--- statement number s; "statements are numbered from 0"
+-- statement number s, counted from 0
 abbrev pub statement : List Statement → ℕ → Statement
 statement ss s = getD ss s blank
 
@@ -59,7 +59,7 @@ names (Held q) p = same q p
 abbrev pub reads : Statement → Place → Bool
 reads s p = names (s .left) p || names (s .right) p
 
--- "cells of one array, the second's index one above the first's"
+-- cells of one array, the second's index one above the first's
 abbrev pub inRow : Place → Place → Bool
 inRow (Variable v) q = false
 inRow (Cell a i) (Variable v) = false

@@ -50,7 +50,7 @@ loaded c values = record { contents = c .contents; registers = c .registers ++ v
 abbrev pub holding : Card → Contents → Card
 holding c m = record { contents = m; registers = c .registers }
 
--- the column "does"; "S in a list reads variables from memory, never from lanes"
+-- the column "does"; S reads variables from memory, never from lanes
 unfoldable pub runInstruction : Block → Instruction → Card → Card
 runInstruction b (S s) c = holding c (runStatement (b .lengths) (statement (b .statements) s) (c .contents))
 runInstruction b (L r k a i) c = loaded c (map (fetchPlace (b .lengths) (c .contents)) (row k a i))

@@ -16,6 +16,7 @@ abbrev pub conflicts : Statement → Statement → Bool
 conflicts later earlier =
     reads later (earlier .destination) || reads earlier (later .destination) || same (later .destination) (earlier .destination)
 
+-- the same by number, for two statements of the block
 abbrev pub dependsOn : List Statement → ℕ → ℕ → Bool
 dependsOn ss later earlier = ltb earlier later && ltb later (length ss) && conflicts (statement ss later) (statement ss earlier)
 

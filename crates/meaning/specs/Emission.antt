@@ -16,7 +16,8 @@ use Rattle.meaning.specs.declared.Statement.{Statement}
 use Rattle.meaning.specs.Block.{statement, same, names, operandsInRow, Position, left, right, operand}
 use Rattle.meaning.specs.List.{Instruction, S, L, C, G, O, W, D, X}
 
--- "A register holds the tuple it was fetched from, or for O the destination tuple; it is current until a statement writes one of those places."
+-- "A register holds the tuple it was fetched from, or for O the destination tuple; it is current until a statement, packed or single,
+-- writes one of those places .."
 pub record Register : Type 0 where
   pub tuple : List Operand
   pub current : Bool
@@ -40,7 +41,8 @@ emit instruction e =
 abbrev pub isHome : ℕ → Home → Bool
 isHome v h = eqb (h .variable) v
 
--- a write: it ends each register whose tuple names the place, and drops what a variable has in a lane
+-- a write: it ends each register whose tuple names the place, and drops what a variable has in a lane: "A value overwritten before that is never
+-- extracted."
 abbrev pub ended : Place → Register → Register
 ended p r = record { tuple = r .tuple; current = r .current && not (any (λ o. names o p) (r .tuple)) }
 
@@ -52,7 +54,7 @@ unfoldable pub written : Place → Emitted → Emitted
 written p e =
     record { instructions = e .instructions; registers = map (ended p) (e .registers); homes = notInLane p (e .homes) }
 
--- "X then comes before that instruction, once per value": the variable is in memory from then on; "X ends no register"
+-- "X then comes before that instruction, in operand order, once per value": the variable is in memory from then on; "X ends no register"
 abbrev pub extractFrom : ℕ → Option Home → Emitted → Emitted
 extractFrom v none e = e
 extractFrom v (some h) e =
@@ -136,7 +138,7 @@ hold tuple e =
 abbrev pub next : Emitted → ℕ
 next e = length (e .registers)
 
--- "else L for ascending neighbours of one array, else C for constants, else G", where G wants its variables in memory, "lane 0 up"
+-- "else L for ascending neighbours of one array, else C for constants, else G", where G wants its variables in memory, lane 0 first
 abbrev pub loadInstruction : ℕ → List Operand → Option (ℕ × ℕ) → Option (List ℕ) → Instruction
 loadInstruction r tuple (some start) constants = L r (length tuple) (start .0) (start .1)
 loadInstruction r tuple none (some constants) = C r constants

@@ -41,7 +41,7 @@ isBetter ss pairs p (some best) = ltb (estimate ss pairs best) (estimate ss pair
 abbrev pub better : List Statement → List Pair → Pair → Option Pair → Option Pair
 better ss pairs p best = pick (mayBeAdmitted ss pairs p && pays ss pairs p && isBetter ss pairs p best) (some p) best
 
--- "among all t reading s's result and t' reading its partner's result, t then t' ascending, take the first with the greatest estimate among
+-- "among all t reading s's result and t' reading its partner's result (..), t then t' ascending, take the first with the greatest estimate among
 -- those that may be admitted, if it is 0 or more"
 abbrev pub bestWith : List Statement → List Pair → ℕ → ℕ → Option Pair → Option Pair
 bestWith ss pairs partner t best =

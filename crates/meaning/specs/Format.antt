@@ -150,7 +150,7 @@ readStatements (suc n) variables lengths (size ∷ bytes) =
 abbrev pub nothingLeft : {A : Type 0} → A × List ℕ → Answer A
 nothingLeft read = demand (eqb (length (read .1)) 0) 4 (done (read .0))
 
--- "short (2), 1, stated length (2), header counts (3), array lengths, then record by record, then bytes left over": "version 1; total length
+-- "short (2), 1, stated length (2), header counts (3), array lengths (..), then record by record 4 before 5, then bytes left over (4)": "version 1; total length
 -- (2 bytes, the whole block); variables; live-out count; arrays; statements (1 byte each); each array's length (2 bytes); then the statements"
 abbrev pub readBody : List ℕ → Answer Block
 readBody bytes =

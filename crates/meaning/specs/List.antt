@@ -25,7 +25,7 @@ pub data Instruction : Type 0 where
   D : (r lane array index : ℕ) → Instruction
   X : (r lane variable : ℕ) → Instruction
 
--- the column "price"
+-- the column "price"; "Copy in O is an instruction and has price 1."
 abbrev pub instructionPrice : List Statement → Instruction → ℕ
 instructionPrice ss (S s) = statementPrice (statement ss s)
 instructionPrice ss (L r k a i) = 1

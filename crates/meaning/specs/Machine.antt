@@ -13,7 +13,7 @@ use Rattle.meaning.specs.declared.Operand.the-variants.{Nothing, Constan
 use Rattle.meaning.specs.declared.Statement.{Statement}
 use Rattle.meaning.specs.Block.{Block}
 
--- "0 copy, 1 add, 2 subtract, 3 multiply, 4 and, 5 or, 6 exclusive or, 7 shift right. Results of 1 to 3 are taken modulo 2^32.
+-- "0 copy (one operand), 1 add, 2 subtract, 3 multiply, 4 and, 5 or, 6 exclusive or, 7 shift right. Results of 1 to 3 are taken modulo 2^32.
 -- The shift count is the right operand modulo 32."
 unfoldable pub operate : ℕ → ℕ → ℕ → ℕ
 operate operation a b =
@@ -29,7 +29,7 @@ operate operation a b =
     ∷ [])
     operation 0
 
--- the variables and the cells that a caller lends
+-- "All values are unsigned 32-bit": the variables and the cells that a caller lends are, and every operation keeps them so (proofs/Values)
 pub record Contents : Type 0 where
   pub variables : List ℕ
   pub cells : List ℕ
@@ -58,6 +58,6 @@ store lengths (Cell a i) n m = record { variables = m .variables; cells = set (m
 unfoldable pub runStatement : List ℕ → Statement → Contents → Contents
 runStatement lengths s m = store lengths (s .destination) (operate (s .operation) (fetch lengths m (s .left)) (fetch lengths m (s .right))) m
 
--- "The workstation runs a block statement by statement."
+-- A block is run statement by statement.
 unfoldable pub runBlock : Block → Contents → Contents
 runBlock b m = each (runStatement (b .lengths)) (b .statements) m

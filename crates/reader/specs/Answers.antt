@@ -2,13 +2,13 @@
 use Prim.Native.Nat.{ℕ}
 use mathlib.Core.List.{List}
 use lib.Dec.{eqb}
-use lib.ListN.{length, getD, replicate}
+use lib.ListN.{length, getD, take, replicate}
 use lib.Seq.{sets}
 use Rattle.basics.specs.Choice.{pick}
 use Rattle.meaning.specs.declared.Statement.{Statement}
 use Rattle.meaning.specs.Numbers.{refused, done, demand}
 use Rattle.meaning.specs.Block.{blank}
-use Rattle.meaning.specs.Format.{Rest, countsFit, readBody}
+use Rattle.meaning.specs.Format.{Rest, countsFit, readStatements, readBody}
 use Rattle.meaning.specs.Calls.{BlockRead, blockRead}
 use Rattle.reader.specs.declared.BlockRead.{BlockRead as Read}
 use Rattle.reader.specs.declared.Header.{Header}
@@ -37,6 +37,10 @@ refusal status =
 abbrev pub lengthsRead : List ℕ → ℕ → Rest (List ℕ) → LengthsRead
 lengthsRead slots i (refused number) = record { status = number; lengths = noLengths }
 lengthsRead slots i (done read) = record { status = 0; lengths = sets slots i (read .0) }
+
+-- the statements that the header announces, of which the first so many lengths are declared
+abbrev pub statementsOf : Header → List ℕ → List ℕ → Rest (List Statement)
+statementsOf header lengths bytes = readStatements (header .statements) (header .variables) (take (header .arrays) lengths) bytes
 
 -- the block behind its header and lengths, where the statements before i are in their slots already; "then bytes left over (4)"
 abbrev pub blockBehind : Header → List ℕ → List Statement → ℕ → Rest (List Statement) → Read

@@ -15,15 +15,15 @@ ghost use Rattle.meaning.specs.declared.Place.the-variants.{Cell};
 ghost use Rattle.meaning.specs.declared.Operand.the-variants.{Nothing};
 ghost use Rattle.meaning.specs.Block.{declaresPlace, declaresOperand, declaresStatement};
 ghost use Rattle.meaning.specs.Format.{placeWidth, operandWidth, statementWidth, isOperand, wellFormed, countsFit};
-ghost use Rattle.meaning.specs.Format.{readOperand, readStatement, whole, readRecord, readLengths, readStatements};
+ghost use Rattle.meaning.specs.Format.{readOperand, readStatement, whole, readRecord, readLengths};
 ghost use Rattle.meaning.specs.Calls.{readBlockCall};
-ghost use Rattle.reader.specs.Answers.{answer, refusal, lengthsRead, blockBehind, noLengths, noStatements, counted};
+ghost use Rattle.reader.specs.Answers.{answer, refusal, lengthsRead, statementsOf, blockBehind, noLengths, noStatements, counted};
 ghost use Rattle.reader.specs.Next.{nextLength, nextStatement};
 
 // Reading an operand.
 
 // "big-endian": two bytes, and four, as a number.
-fn two(high: u8, low: u8) -> u16
+pub fn two(high: u8, low: u8) -> u16
     ensures { λ r. ⌜ r ≡ high * 256 + low ⌝ }
 {
     high as u16 * 256 + low as u16
@@ -194,7 +194,7 @@ pub fn read_record(bytes: &[u8]) -> Record
 
 // What is declared.
 
-fn wide(x: u8) -> usize
+pub fn wide(x: u8) -> usize
     ensures { λ r. ⌜ r ≡ x ⌝ }
 {
     x as usize
@@ -395,7 +395,7 @@ fn read_next(
 // The statements, "record by record", and "then bytes left over (4)".
 fn read_statements(bytes: &[u8], header: Header, lengths: &[u16; 8]) -> BlockRead
     requires { ⌜ header .statements ≤ 64 ⌝ }
-    ensures { λ r. ⌜ r ≡ blockBehind header (now (lengths .entry)) noStatements 0 (readStatements (header .statements) (header .variables) (take (header .arrays) (now (lengths .entry))) (now (bytes .entry))) ⌝ }
+    ensures { λ r. ⌜ r ≡ blockBehind header (now (lengths .entry)) noStatements 0 (statementsOf header (now (lengths .entry)) (now (bytes .entry))) ⌝ }
 {
     let blank = Statement {
         operation: 0,

@@ -26,7 +26,11 @@ returns-3 c =
     )
 
 returns-4 : tie.Need-returns-4
-returns-4 c = sym (counts-fit-by _ _ _ (c .before .before .before .before .before .before .args .header .statements) (c .before .before .before .before .before .if1 .left) (c .before .before .before .if2 .left) (c .before .if3 .left))
+returns-4 c =
+    let a = c .before .before .before .before .before .before .args in
+    let if1 = c .before .before .before .before .before .if1 in
+    let if2 = c .before .before .before .if2 in
+    sym (counts-fit-by _ _ _ (a .header .statements) (if1 .left) (if2 .left) (c .before .if3 .left))
 
 pub counts-fit-spec : {M : Type 1} → statement M
 counts-fit-spec = tie.close (tie.spec returns returns-2 returns-3 returns-4)

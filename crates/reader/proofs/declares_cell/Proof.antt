@@ -16,13 +16,21 @@ shared-slice-read-size : tie.Need-shared-slice-read-size
 shared-slice-read-size c = search needs
 
 returns : tie.Need-returns
-returns c = rw (c .before .before .wide .ensures) (sym (cell-declared 0 (c .before .before .before .before .before .args .arrays) (c .before .before .before .before .before .args .array) (c .before .before .before .before .before .args .index) (c .before .before .before .before .before .args .lengths .now) (c .before .before .before .if1 .taken) (omega (arith, c .before .if2 .taken, c .before .before .wide .ensures))))
+returns c =
+    let a = c .before .before .before .before .before .args in
+    let if1 = c .before .before .before .if1 in
+    let wide = c .before .before .wide in
+    rw (wide .ensures) (sym (cell-declared 0 (a .arrays) (a .array) (a .index) (a .lengths .now) (if1 .taken) (omega (arith, c .before .if2 .taken, wide .ensures))))
 
 returns-2 : tie.Need-returns-2
-returns-2 c = sym (cell-past 0 (c .before .before .before .before .args .arrays) (c .before .before .before .before .args .array) (c .before .before .before .before .args .index) (c .before .before .before .before .args .lengths .now) (omega (arith, c .if2 .left, c .before .wide .ensures)))
+returns-2 c =
+    let a = c .before .before .before .before .args in
+    sym (cell-past 0 (a .arrays) (a .array) (a .index) (a .lengths .now) (omega (arith, c .if2 .left, c .before .wide .ensures)))
 
 returns-3 : tie.Need-returns-3
-returns-3 c = sym (cell-undeclared 0 (c .before .before .args .arrays) (c .before .before .args .array) (c .before .before .args .index) (c .before .before .args .lengths .now) (c .if1 .left))
+returns-3 c =
+    let a = c .before .before .args in
+    sym (cell-undeclared 0 (a .arrays) (a .array) (a .index) (a .lengths .now) (c .if1 .left))
 
 pub declares-cell-spec : {M : Type 1} → statement M
 declares-cell-spec =

@@ -19,7 +19,10 @@ returns : tie.Need-returns
 returns c = simp (c .before .place .given .1)
 
 returns-2 : tie.Need-returns-2
-returns-2 c = c .declares-cell .ensures ∙ ap (declaresPlace (c .before .before .before .before .before .args .variables) (take (c .before .before .before .before .before .args .arrays) (c .before .before .before .before .before .args .lengths .now))) (sym (c .before .before .before .place2 .given .1))
+returns-2 c =
+    let a = c .before .before .before .before .before .args in
+    let place2 = c .before .before .before .place2 in
+    c .declares-cell .ensures ∙ ap (declaresPlace (a .variables) (take (a .arrays) (a .lengths .now))) (sym (place2 .given .1))
 
 pub declares-place-spec : {M : Type 1} → statement M
 declares-place-spec =

@@ -21,7 +21,9 @@ read-operand-requires : tie.Need-read-operand-requires
 read-operand-requires c κs = search needs
 
 returns : tie.Need-returns
-returns c = c .read-operand .ensures ∙ ap readOperand (take-rest (c .before .before .before .before .args .bytes .now) (c .before .before .before .before .args .start))
+returns c =
+    let a = c .before .before .before .before .args in
+    c .read-operand .ensures ∙ ap readOperand (take-rest (a .bytes .now) (a .start))
 
 returns-2 : tie.Need-returns-2
 unfolding readOperand

@@ -20,7 +20,10 @@ operand-width-requires : tie.Need-operand-width-requires
 operand-width-requires c κs = search needs
 
 add-right-at : tie.Need-add-right-at
-add-right-at c = omega (arith, c .before .before .place-width .ensures, place-small (c .before .before .before .before .args .destination), c .operand-width .ensures, operand-small (c .before .operand-at .result))
+add-right-at c =
+    let a = c .before .before .before .before .args in
+    let place-width = c .before .before .place-width in
+    omega (arith, place-width .ensures, place-small (a .destination), c .operand-width .ensures, operand-small (c .before .operand-at .result))
 
 right-at-requires : tie.Need-right-at-requires
 right-at-requires c κs = search needs
@@ -32,13 +35,43 @@ statement-width-requires : tie.Need-statement-width-requires
 statement-width-requires c κs = search needs
 
 returns : tie.Need-returns
-returns c = is-whole (c .before .before .before .before .before .before .before .before .before .args .bytes .now) _ _ (put-together (c .before .before .before .before .before .before .before .before .before .args .bytes .now) (c .before .before .before .before .before .before .before .before .before .args .operation) (c .before .before .before .before .before .before .before .before .before .args .destination) (c .before .before .before .before .before .before .operand-at .result) (c .before .before .before .before .right-at .result) (c .before .before .before .before .before .before .before .place-width .result) (c .before .before .before .before .before .operand-width .result) (c .before .before .before .before .before .before .before .before .before .pre) (c .before .before .before .before .before .before .before .place-width .ensures) (c .before .before .before .before .before .before .operand-at .ensures) (c .before .before .before .before .before .operand-width .ensures) (c .before .before .before .before .right-at .ensures)) (sym (c .before .before .before .well-formed .ensures) ∙ c .before .before .if1 .taken) (c .if2 .taken ∙ c .before .statement-width .ensures)
+returns c =
+    let a = c .before .before .before .before .before .before .before .before .before .args in
+    let place-width = c .before .before .before .before .before .before .before .place-width in
+    let operand-at = c .before .before .before .before .before .before .operand-at in
+    let operand-width = c .before .before .before .before .before .operand-width in
+    let right-at = c .before .before .before .before .right-at in
+    let well-formed = c .before .before .before .well-formed in
+    let if1 = c .before .before .if1 in
+    is-whole (a .bytes .now) _ _ (put-together (a .bytes .now) (a .operation) (a .destination) (operand-at .result)
+    (right-at .result) (place-width .result) (operand-width .result)
+    (c .before .before .before .before .before .before .before .before .before .pre) (place-width .ensures)
+    (operand-at .ensures) (operand-width .ensures) (right-at .ensures)) (sym (well-formed .ensures) ∙ if1 .taken)
+    (c .if2 .taken ∙ c .before .statement-width .ensures)
 
 returns-2 : tie.Need-returns-2
-returns-2 c = wrong-width (c .before .before .before .before .before .before .before .before .before .args .bytes .now) _ _ (put-together (c .before .before .before .before .before .before .before .before .before .args .bytes .now) (c .before .before .before .before .before .before .before .before .before .args .operation) (c .before .before .before .before .before .before .before .before .before .args .destination) (c .before .before .before .before .before .before .operand-at .result) (c .before .before .before .before .right-at .result) (c .before .before .before .before .before .before .before .place-width .result) (c .before .before .before .before .before .operand-width .result) (c .before .before .before .before .before .before .before .before .before .pre) (c .before .before .before .before .before .before .before .place-width .ensures) (c .before .before .before .before .before .before .operand-at .ensures) (c .before .before .before .before .before .operand-width .ensures) (c .before .before .before .before .right-at .ensures)) (λ e. c .if2 .left (e ∙ sym (c .before .statement-width .ensures)))
+returns-2 c =
+    let a = c .before .before .before .before .before .before .before .before .before .args in
+    let place-width = c .before .before .before .before .before .before .before .place-width in
+    let operand-at = c .before .before .before .before .before .before .operand-at in
+    let operand-width = c .before .before .before .before .before .operand-width in
+    let right-at = c .before .before .before .before .right-at in
+    wrong-width (a .bytes .now) _ _ (put-together (a .bytes .now) (a .operation) (a .destination) (operand-at .result)
+    (right-at .result) (place-width .result) (operand-width .result)
+    (c .before .before .before .before .before .before .before .before .before .pre) (place-width .ensures)
+    (operand-at .ensures) (operand-width .ensures) (right-at .ensures)) (λ e. c .if2 .left (e ∙ sym (c .before .statement-width .ensures)))
 
 returns-3 : tie.Need-returns-3
-returns-3 c = ill-formed (c .before .before .before .before .before .before .before .args .bytes .now) _ _ (put-together (c .before .before .before .before .before .before .before .args .bytes .now) (c .before .before .before .before .before .before .before .args .operation) (c .before .before .before .before .before .before .before .args .destination) (c .before .before .before .before .operand-at .result) (c .before .before .right-at .result) (c .before .before .before .before .before .place-width .result) (c .before .before .before .operand-width .result) (c .before .before .before .before .before .before .before .pre) (c .before .before .before .before .before .place-width .ensures) (c .before .before .before .before .operand-at .ensures) (c .before .before .before .operand-width .ensures) (c .before .before .right-at .ensures)) (sym (c .before .well-formed .ensures) ∙ c .if1 .left)
+returns-3 c =
+    let a = c .before .before .before .before .before .before .before .args in
+    let place-width = c .before .before .before .before .before .place-width in
+    let operand-at = c .before .before .before .before .operand-at in
+    let operand-width = c .before .before .before .operand-width in
+    let right-at = c .before .before .right-at in
+    ill-formed (a .bytes .now) _ _ (put-together (a .bytes .now) (a .operation) (a .destination) (operand-at .result)
+    (right-at .result) (place-width .result) (operand-width .result)
+    (c .before .before .before .before .before .before .before .pre) (place-width .ensures) (operand-at .ensures)
+    (operand-width .ensures) (right-at .ensures)) (sym (c .before .well-formed .ensures) ∙ c .if1 .left)
 
 pub read-behind-spec : {M : Type 1} → statement M
 read-behind-spec =

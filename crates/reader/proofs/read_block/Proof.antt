@@ -10,7 +10,9 @@ refuse-requires : tie.Need-refuse-requires
 refuse-requires c κs = search needs
 
 returns : tie.Need-returns
-returns c = ap answer (c .refuse .ensures) ∙ sym (too-short (c .before .before .before .args .bytes .now) (c .before .if1 .taken))
+returns c =
+    let a = c .before .before .before .args in
+    ap answer (c .refuse .ensures) ∙ sym (too-short (a .bytes .now) (c .before .if1 .taken))
 
 shared-slice-read-if2 : tie.Need-shared-slice-read-if2
 shared-slice-read-if2 c = search needs
@@ -19,7 +21,10 @@ refuse-requires-2 : tie.Need-refuse-requires-2
 refuse-requires-2 c κs = search needs
 
 returns-2 : tie.Need-returns-2
-returns-2 c = ap answer (c .refuse2 .ensures) ∙ sym (other-version (c .before .before .before .before .before .args .bytes .now) (c .before .before .before .if1 .left) (c .before .if2 .taken))
+returns-2 c =
+    let a = c .before .before .before .before .before .args in
+    let if1 = c .before .before .before .if1 in
+    ap answer (c .refuse2 .ensures) ∙ sym (other-version (a .bytes .now) (if1 .left) (c .before .if2 .taken))
 
 shared-slice-read-two : tie.Need-shared-slice-read-two
 shared-slice-read-two c = search needs
@@ -37,13 +42,25 @@ refuse-requires-3 : tie.Need-refuse-requires-3
 refuse-requires-3 c κs = search needs
 
 returns-3 : tie.Need-returns-3
-returns-3 c = ap answer (c .refuse3 .ensures) ∙ sym (other-length (c .before .before .before .before .before .before .before .before .before .args .bytes .now) (c .before .before .before .before .before .before .before .if1 .left) (c .before .before .before .before .before .if2 .left) _ (c .before .before .two .ensures) (c .before .if3 .taken))
+returns-3 c =
+    let a = c .before .before .before .before .before .before .before .before .before .args in
+    let if1 = c .before .before .before .before .before .before .before .if1 in
+    let if2 = c .before .before .before .before .before .if2 in
+    let two = c .before .before .two in
+    ap answer (c .refuse3 .ensures) ∙ sym (other-length (a .bytes .now) (if1 .left) (if2 .left) _ (two .ensures)
+    (c .before .if3 .taken))
 
 read-counted-requires : tie.Need-read-counted-requires
 read-counted-requires c κs = search needs
 
 returns-4 : tie.Need-returns-4
-returns-4 c = c .read-counted .ensures ∙ sym (length-as-stated (c .before .before .before .before .before .before .before .before .before .args .bytes .now) (c .before .before .before .before .before .before .before .if1 .left) (c .before .before .before .before .before .if2 .left) _ (c .before .before .two .ensures) (c .before .if3 .left))
+returns-4 c =
+    let a = c .before .before .before .before .before .before .before .before .before .args in
+    let if1 = c .before .before .before .before .before .before .before .if1 in
+    let if2 = c .before .before .before .before .before .if2 in
+    let two = c .before .before .two in
+    c .read-counted .ensures ∙ sym (length-as-stated (a .bytes .now) (if1 .left) (if2 .left) _ (two .ensures)
+    (c .before .if3 .left))
 
 pub read-block-spec : {M : Type 1} → statement M
 read-block-spec =

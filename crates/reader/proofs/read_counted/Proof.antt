@@ -32,43 +32,101 @@ part-read-lengths-end : tie.Need-part-read-lengths-end
 part-read-lengths-end c = search needs
 
 read-lengths-requires : tie.Need-read-lengths-requires
-read-lengths-requires c κs = few-arrays (c .before .before .before .before .before .before .before .before .args .bytes .now) (sym (c .before .before .counts-fit .ensures) ∙ c .before .if1 .taken)
+read-lengths-requires c κs =
+    let a = c .before .before .before .before .before .before .before .before .args in
+    let counts-fit = c .before .before .counts-fit in
+    few-arrays (a .bytes .now) (sym (counts-fit .ensures) ∙ c .before .if1 .taken)
 
 refuse-requires : tie.Need-refuse-requires
 refuse-requires c κs = search needs
 
 returns : tie.Need-returns
-returns c = ap answer (c .refuse .ensures) ∙ sym (lengths-stopped (c .before .before .before .before .before .before .before .before .before .before .before .args .bytes .now) (sym (c .before .before .before .before .before .counts-fit .ensures) ∙ c .before .before .before .before .if1 .taken) (c .before .before .read-lengths .result) _ refl (c .before .before .read-lengths .ensures) (c .before .if2 .taken))
+returns c =
+    let a = c .before .before .before .before .before .before .before .before .before .before .before .args in
+    let counts-fit = c .before .before .before .before .before .counts-fit in
+    let if1 = c .before .before .before .before .if1 in
+    let read-lengths = c .before .before .read-lengths in
+    ap answer (c .refuse .ensures) ∙ sym (lengths-stopped (a .bytes .now) (sym (counts-fit .ensures) ∙ if1 .taken)
+    (read-lengths .result) _ refl (read-lengths .ensures) (c .before .if2 .taken))
 
 wide-requires : tie.Need-wide-requires
 wide-requires c κs = search needs
 
 add-start : tie.Need-add-start
-add-start c = omega (arith, c .wide .ensures, few-arrays (c .before .before .before .before .before .before .before .before .before .before .before .before .args .bytes .now) (sym (c .before .before .before .before .before .before .counts-fit .ensures) ∙ c .before .before .before .before .before .if1 .taken))
+add-start c =
+    let a = c .before .before .before .before .before .before .before .before .before .before .before .before .args in
+    let counts-fit = c .before .before .before .before .before .before .counts-fit in
+    let if1 = c .before .before .before .before .before .if1 in
+    omega (arith, c .wide .ensures, few-arrays (a .bytes .now) (sym (counts-fit .ensures) ∙ if1 .taken))
 
 add-start-2 : tie.Need-add-start-2
-add-start-2 c = omega (arith, c .wide .ensures, few-arrays (c .before .before .before .before .before .before .before .before .before .before .before .before .args .bytes .now) (sym (c .before .before .before .before .before .before .counts-fit .ensures) ∙ c .before .before .before .before .before .if1 .taken))
+add-start-2 c =
+    let a = c .before .before .before .before .before .before .before .before .before .before .before .before .args in
+    let counts-fit = c .before .before .before .before .before .before .counts-fit in
+    let if1 = c .before .before .before .before .before .if1 in
+    omega (arith, c .wide .ensures, few-arrays (a .bytes .now) (sym (counts-fit .ensures) ∙ if1 .taken))
 
 sub-read-statements : tie.Need-sub-read-statements
-sub-read-statements c = omega (arith, c .wide .ensures, lengths-room (c .before .before .before .before .before .before .before .before .before .before .before .before .args .bytes .now) (sym (c .before .before .before .before .before .before .counts-fit .ensures) ∙ c .before .before .before .before .before .if1 .taken) (c .before .before .before .read-lengths .result) _ refl (c .before .before .before .read-lengths .ensures) (c .before .before .before .before .before .before .before .before .before .before .before .before .pre) (c .before .before .if2 .left))
+sub-read-statements c =
+    let a = c .before .before .before .before .before .before .before .before .before .before .before .before .args in
+    let counts-fit = c .before .before .before .before .before .before .counts-fit in
+    let if1 = c .before .before .before .before .before .if1 in
+    let read-lengths = c .before .before .before .read-lengths in
+    let if2 = c .before .before .if2 in
+    omega (
+      arith,
+      c .wide .ensures,
+      lengths-room (a .bytes .now) (sym (counts-fit .ensures) ∙ if1 .taken)
+          (read-lengths .result) _ refl (read-lengths .ensures)
+          (c .before .before .before .before .before .before .before .before .before .before .before .before .pre)
+          (if2 .left),
+    )
 
 part-read-statements-start : tie.Need-part-read-statements-start
-part-read-statements-start c = omega (arith, c .wide .ensures, lengths-room (c .before .before .before .before .before .before .before .before .before .before .before .before .args .bytes .now) (sym (c .before .before .before .before .before .before .counts-fit .ensures) ∙ c .before .before .before .before .before .if1 .taken) (c .before .before .before .read-lengths .result) _ refl (c .before .before .before .read-lengths .ensures) (c .before .before .before .before .before .before .before .before .before .before .before .before .pre) (c .before .before .if2 .left))
+part-read-statements-start c =
+    let a = c .before .before .before .before .before .before .before .before .before .before .before .before .args in
+    let counts-fit = c .before .before .before .before .before .before .counts-fit in
+    let if1 = c .before .before .before .before .before .if1 in
+    let read-lengths = c .before .before .before .read-lengths in
+    let if2 = c .before .before .if2 in
+    omega (
+      arith,
+      c .wide .ensures,
+      lengths-room (a .bytes .now) (sym (counts-fit .ensures) ∙ if1 .taken)
+          (read-lengths .result) _ refl (read-lengths .ensures)
+          (c .before .before .before .before .before .before .before .before .before .before .before .before .pre)
+          (if2 .left),
+    )
 
 part-read-statements-end : tie.Need-part-read-statements-end
 part-read-statements-end c = search needs
 
 read-statements-requires : tie.Need-read-statements-requires
-read-statements-requires c κs = few-statements (c .before .before .before .before .before .before .before .before .before .before .before .before .before .before .args .bytes .now) (sym (c .before .before .before .before .before .before .before .before .counts-fit .ensures) ∙ c .before .before .before .before .before .before .before .if1 .taken)
+read-statements-requires c κs =
+    let a = c .before .before .before .before .before .before .before .before .before .before .before .before .before .before .args in
+    let counts-fit = c .before .before .before .before .before .before .before .before .counts-fit in
+    let if1 = c .before .before .before .before .before .before .before .if1 in
+    few-statements (a .bytes .now) (sym (counts-fit .ensures) ∙ if1 .taken)
 
 refuse-requires-2 : tie.Need-refuse-requires-2
 refuse-requires-2 c κs = search needs
 
 returns-2 : tie.Need-returns-2
-returns-2 c = ap answer (c .read-statements .ensures) ∙ sym (lengths-done (c .before .before .before .before .before .before .before .before .before .before .before .before .before .before .before .args .bytes .now) (sym (c .before .before .before .before .before .before .before .before .before .counts-fit .ensures) ∙ c .before .before .before .before .before .before .before .before .if1 .taken) (c .before .before .before .before .before .before .read-lengths .result) _ refl (c .before .before .before .before .before .before .read-lengths .ensures) _ (c .before .before .before .wide .ensures) (c .before .before .before .before .before .if2 .left))
+returns-2 c =
+    let a = c .before .before .before .before .before .before .before .before .before .before .before .before .before .before .before .args in
+    let counts-fit = c .before .before .before .before .before .before .before .before .before .counts-fit in
+    let if1 = c .before .before .before .before .before .before .before .before .if1 in
+    let read-lengths = c .before .before .before .before .before .before .read-lengths in
+    let if2 = c .before .before .before .before .before .if2 in
+    let wide = c .before .before .before .wide in
+    ap answer (c .read-statements .ensures) ∙ sym (lengths-done (a .bytes .now) (sym (counts-fit .ensures) ∙ if1 .taken)
+    (read-lengths .result) _ refl (read-lengths .ensures) _ (wide .ensures) (if2 .left))
 
 returns-3 : tie.Need-returns-3
-returns-3 c = ap answer (c .refuse2 .ensures) ∙ sym (counts-over (c .before .before .before .before .before .before .before .before .args .bytes .now) (sym (c .before .before .counts-fit .ensures) ∙ c .before .if1 .left))
+returns-3 c =
+    let a = c .before .before .before .before .before .before .before .before .args in
+    let counts-fit = c .before .before .counts-fit in
+    ap answer (c .refuse2 .ensures) ∙ sym (counts-over (a .bytes .now) (sym (counts-fit .ensures) ∙ c .before .if1 .left))
 
 pub read-counted-spec : {M : Type 1} → statement M
 read-counted-spec =

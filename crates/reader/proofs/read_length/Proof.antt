@@ -24,13 +24,27 @@ two-requires : tie.Need-two-requires
 two-requires c κs = search needs
 
 returns-2 : tie.Need-returns-2
-returns-2 c = sym (length-none (c .before .before .before .before .before .before .args .bytes .now) (c .before .before .before .before .before .before .args .start) (c .before .two .result) (c .before .before .before .before .if1 .left) (c .before .two .ensures) (c .if2 .taken))
+returns-2 c =
+    let a = c .before .before .before .before .before .before .args in
+    let if1 = c .before .before .before .before .if1 in
+    let two = c .before .two in
+    sym (length-none (a .bytes .now) (a .start) (two .result) (if1 .left) (two .ensures) (c .if2 .taken))
 
 returns-3 : tie.Need-returns-3
-returns-3 c = sym (length-over (c .before .before .before .before .before .before .before .args .bytes .now) (c .before .before .before .before .before .before .before .args .start) (c .before .before .two .result) (c .before .before .before .before .before .if1 .left) (c .before .before .two .ensures) (c .before .if2 .left) (c .if3 .taken))
+returns-3 c =
+    let a = c .before .before .before .before .before .before .before .args in
+    let if1 = c .before .before .before .before .before .if1 in
+    let two = c .before .before .two in
+    sym (length-over (a .bytes .now) (a .start) (two .result) (if1 .left) (two .ensures) (c .before .if2 .left)
+    (c .if3 .taken))
 
 returns-4 : tie.Need-returns-4
-returns-4 c = sym (length-fits (c .before .before .before .before .before .before .before .args .bytes .now) (c .before .before .before .before .before .before .before .args .start) (c .before .before .two .result) (c .before .before .before .before .before .if1 .left) (c .before .before .two .ensures) (c .before .if2 .left) (c .if3 .left))
+returns-4 c =
+    let a = c .before .before .before .before .before .before .before .args in
+    let if1 = c .before .before .before .before .before .if1 in
+    let two = c .before .before .two in
+    sym (length-fits (a .bytes .now) (a .start) (two .result) (if1 .left) (two .ensures) (c .before .if2 .left)
+    (c .if3 .left))
 
 pub read-length-spec : {M : Type 1} → statement M
 read-length-spec =

@@ -1,4 +1,5 @@
--- `reader::read_lengths` meets its contract: the loop's invariant says what remains: the whole answer is that of the lengths from i on, put behind those in their slots.
+-- `reader::read_lengths` meets its contract. The loop's invariant says what remains: the whole answer is that of the
+-- lengths from i on, put behind those in their slots.
 use Rattle.reader.proofs.Turns.{lengths-end, lengths-stop, lengths-more}
 use Rattle.reader.specs.Answers.{noLengths, lengthsRead}
 use Rattle.meaning.specs.Format.{readLengths}
@@ -38,7 +39,14 @@ enum-known-next c = search needs
 
 returns : tie.Need-returns Inv-loop μ-loop
 unfolding noLengths
-returns c = sym (c .before .before .before .before .before .loop .inv .2 ∙ lengths-stop (c .before .before .before .before .before .before .before .before .args .bytes .now) (c .before .before .before .before .before .loop .lengths) (c .before .before .before .before .before .before .wide .result) (c .before .before .before .before .before .loop .i) _ (c .before .before .before .before .loop-test .taken) (sym (c .before .before .before .read-length .ensures) ∙ c .before .next .given .1))
+returns c =
+    let a = c .before .before .before .before .before .before .before .before .args in
+    let wide = c .before .before .before .before .before .before .wide in
+    let loop = c .before .before .before .before .before .loop in
+    let loop-test = c .before .before .before .before .loop-test in
+    let read-length = c .before .before .before .read-length in
+    sym (loop .inv .2 ∙ lengths-stop (a .bytes .now) (loop .lengths) (wide .result) (loop .i) _ (loop-test .taken)
+    (sym (read-length .ensures) ∙ c .before .next .given .1))
 
 enum-known-next-2 : tie.Need-enum-known-next-2 Inv-loop μ-loop
 enum-known-next-2 c = search needs
@@ -56,10 +64,24 @@ loop-less : tie.Need-loop-less Inv-loop μ-loop
 loop-less c = omega arith
 
 loop-again : tie.Need-loop-again Inv-loop μ-loop
-loop-again c = (c .before .before .before .before .before .loop .inv .0, omega arith, c .before .before .before .before .before .loop .inv .2 ∙ lengths-more (c .before .before .before .before .before .before .before .before .args .bytes .now) (c .before .before .before .before .before .loop .lengths) (c .before .before .before .before .before .before .wide .result) (c .before .before .before .before .before .loop .i) _ (c .before .before .before .before .loop-test .taken) (sym (c .before .before .before .read-length .ensures) ∙ c .before .next2 .given .1))
+loop-again c =
+    let a = c .before .before .before .before .before .before .before .before .args in
+    let wide = c .before .before .before .before .before .before .wide in
+    let loop = c .before .before .before .before .before .loop in
+    let loop-test = c .before .before .before .before .loop-test in
+    let read-length = c .before .before .before .read-length in (
+      loop .inv .0,
+      omega arith,
+      loop .inv .2 ∙ lengths-more (a .bytes .now) (loop .lengths) (wide .result) (loop .i) _
+          (loop-test .taken) (sym (read-length .ensures) ∙ c .before .next2 .given .1),
+    )
 
 returns-2 : tie.Need-returns-2 Inv-loop μ-loop
-returns-2 c = sym (c .before .loop .inv .2 ∙ lengths-end (c .before .before .before .before .args .bytes .now) (c .before .loop .lengths) (c .before .before .wide .result) (c .before .loop .i) (c .loop-test .left))
+returns-2 c =
+    let a = c .before .before .before .before .args in
+    let wide = c .before .before .wide in
+    let loop = c .before .loop in
+    sym (loop .inv .2 ∙ lengths-end (a .bytes .now) (loop .lengths) (wide .result) (loop .i) (c .loop-test .left))
 
 pub read-lengths-spec : {M : Type 1} → statement M
 read-lengths-spec =

@@ -7,7 +7,10 @@ use Rattle.reader.proofs.read_next.Statement.{statement}
 use Rattle.reader.proofs.read_next.Tie as tie
 
 returns : tie.Need-returns
-returns c = sym (no-record-left (c .before .before .args .variables) (take (c .before .before .args .arrays) (c .before .before .args .lengths .now)) (c .before .before .args .bytes .now) (c .before .before .args .start) (c .if1 .taken))
+returns c =
+    let a = c .before .before .args in
+    sym (no-record-left (a .variables) (take (a .arrays) (a .lengths .now)) (a .bytes .now) (a .start)
+    (c .if1 .taken))
 
 shared-slice-read-wide : tie.Need-shared-slice-read-wide
 shared-slice-read-wide c = search needs
@@ -22,7 +25,10 @@ sub-if2 : tie.Need-sub-if2
 sub-if2 c = search needs
 
 returns-2 : tie.Need-returns-2
-returns-2 c = sym (record-ends (c .before .before .before .before .before .args .variables) (take (c .before .before .before .before .before .args .arrays) (c .before .before .before .before .before .args .lengths .now)) (c .before .before .before .before .before .args .bytes .now) (c .before .before .before .before .before .args .start) (c .before .before .before .if1 .left) (rw (c .before .wide .ensures) at (c .if2 .taken)))
+returns-2 c =
+    let a = c .before .before .before .before .before .args in
+    let if1 = c .before .before .before .if1 in
+    sym (record-ends (a .variables) (take (a .arrays) (a .lengths .now)) (a .bytes .now) (a .start) (if1 .left) (rw (c .before .wide .ensures) at (c .if2 .taken)))
 
 add-next : tie.Need-add-next
 add-next c = search needs
@@ -49,13 +55,36 @@ declares-statement-requires : tie.Need-declares-statement-requires
 declares-statement-requires c κs = search needs
 
 returns-3 : tie.Need-returns-3
-returns-3 c = sym (record-broken (c .before .before .before .before .before .before .before .before .before .args .variables) (take (c .before .before .before .before .before .before .before .before .before .args .arrays) (c .before .before .before .before .before .before .before .before .before .args .lengths .now)) (c .before .before .before .before .before .before .before .before .before .args .bytes .now) (c .before .before .before .before .before .before .before .before .before .args .start) (c .before .before .before .before .before .wide .result) (c .before .before .before .before .before .before .before .if1 .left) (c .before .before .before .before .before .wide .ensures) (c .before .before .before .before .if2 .left) (sym (c .before .before .read-record .ensures) ∙ c .enum-told .given .1))
+returns-3 c =
+    let a = c .before .before .before .before .before .before .before .before .before .args in
+    let if1 = c .before .before .before .before .before .before .before .if1 in
+    let wide = c .before .before .before .before .before .wide in
+    let if2 = c .before .before .before .before .if2 in
+    let read-record = c .before .before .read-record in
+    sym (record-broken (a .variables) (take (a .arrays) (a .lengths .now)) (a .bytes .now) (a .start) (wide .result)
+    (if1 .left) (wide .ensures) (if2 .left) (sym (read-record .ensures) ∙ c .enum-told .given .1))
 
 returns-4 : tie.Need-returns-4
-returns-4 c = sym (record-whole (c .before .before .before .before .before .before .before .before .before .before .before .before .args .variables) (take (c .before .before .before .before .before .before .before .before .before .before .before .before .args .arrays) (c .before .before .before .before .before .before .before .before .before .before .before .before .args .lengths .now)) (c .before .before .before .before .before .before .before .before .before .before .before .before .args .bytes .now) (c .before .before .before .before .before .before .before .before .before .before .before .before .args .start) (c .before .before .before .before .before .before .before .before .wide .result) (c .before .before .before .before .before .before .before .before .before .before .if1 .left) (c .before .before .before .before .before .before .before .before .wide .ensures) (c .before .before .before .before .before .before .before .if2 .left) _ (sym (c .before .before .before .before .before .read-record .ensures) ∙ c .before .before .before .statement .given .1) ∙ rw (← c .before .declares-statement .ensures, c .if3 .taken))
+returns-4 c =
+    let a = c .before .before .before .before .before .before .before .before .before .before .before .before .args in
+    let if1 = c .before .before .before .before .before .before .before .before .before .before .if1 in
+    let wide = c .before .before .before .before .before .before .before .before .wide in
+    let if2 = c .before .before .before .before .before .before .before .if2 in
+    let read-record = c .before .before .before .before .before .read-record in
+    let statement = c .before .before .before .statement in
+    sym (record-whole (a .variables) (take (a .arrays) (a .lengths .now)) (a .bytes .now) (a .start) (wide .result)
+    (if1 .left) (wide .ensures) (if2 .left) _ (sym (read-record .ensures) ∙ statement .given .1) ∙ rw (← c .before .declares-statement .ensures, c .if3 .taken))
 
 returns-5 : tie.Need-returns-5
-returns-5 c = sym (record-whole (c .before .before .before .before .before .before .before .before .before .before .before .before .args .variables) (take (c .before .before .before .before .before .before .before .before .before .before .before .before .args .arrays) (c .before .before .before .before .before .before .before .before .before .before .before .before .args .lengths .now)) (c .before .before .before .before .before .before .before .before .before .before .before .before .args .bytes .now) (c .before .before .before .before .before .before .before .before .before .before .before .before .args .start) (c .before .before .before .before .before .before .before .before .wide .result) (c .before .before .before .before .before .before .before .before .before .before .if1 .left) (c .before .before .before .before .before .before .before .before .wide .ensures) (c .before .before .before .before .before .before .before .if2 .left) _ (sym (c .before .before .before .before .before .read-record .ensures) ∙ c .before .before .before .statement .given .1) ∙ rw (← c .before .declares-statement .ensures, c .if3 .left))
+returns-5 c =
+    let a = c .before .before .before .before .before .before .before .before .before .before .before .before .args in
+    let if1 = c .before .before .before .before .before .before .before .before .before .before .if1 in
+    let wide = c .before .before .before .before .before .before .before .before .wide in
+    let if2 = c .before .before .before .before .before .before .before .if2 in
+    let read-record = c .before .before .before .before .before .read-record in
+    let statement = c .before .before .before .statement in
+    sym (record-whole (a .variables) (take (a .arrays) (a .lengths .now)) (a .bytes .now) (a .start) (wide .result)
+    (if1 .left) (wide .ensures) (if2 .left) _ (sym (read-record .ensures) ∙ statement .given .1) ∙ rw (← c .before .declares-statement .ensures, c .if3 .left))
 
 pub read-next-spec : {M : Type 1} → statement M
 read-next-spec =

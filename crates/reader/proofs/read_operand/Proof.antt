@@ -40,7 +40,10 @@ returns-2 : tie.Need-returns-2
 returns-2 c = sym (constant-short _ (c .before .match .keys1) (c .if2 .taken))
 
 returns-3 : tie.Need-returns-3
-returns-3 c = ap Constant (c .four .ensures) ∙ sym (constant _ (c .before .before .before .before .before .before .match .keys1) (c .before .before .before .before .before .if2 .left))
+returns-3 c =
+    let arm = c .before .before .before .before .before .before .match in
+    let if2 = c .before .before .before .before .before .if2 in
+    ap Constant (c .four .ensures) ∙ sym (constant _ (arm .keys1) (if2 .left))
 
 returns-4 : tie.Need-returns-4
 returns-4 c = sym (variable-short _ (c .before .match .keys2) (c .if3 .taken))

@@ -38,13 +38,26 @@ enum-told-2 : tie.Need-enum-told-2
 enum-told-2 c = search needs
 
 returns-2 : tie.Need-returns-2
-returns-2 c = c .read-behind .ensures ∙ sym (destination-place (c .before .before .before .before .before .before .before .before .before .args .bytes .now) _ (sym (c .before .before .before .before .before .read-operand .ensures ∙ ap readOperand (take-rest (c .before .before .before .before .before .before .before .before .before .args .bytes .now) 1)) ∙ c .before .before .before .destination .given .1))
+returns-2 c =
+    let a = c .before .before .before .before .before .before .before .before .before .args in
+    let read-operand = c .before .before .before .before .before .read-operand in
+    let destination = c .before .before .before .destination in
+    c .read-behind .ensures ∙ sym (destination-place (a .bytes .now) _ (sym (read-operand .ensures ∙ ap readOperand (take-rest (a .bytes .now) 1))
+    ∙ destination .given .1))
 
 returns-3 : tie.Need-returns-3
-returns-3 c = sym (destination-constant (c .before .before .before .before .before .before .args .bytes .now) _ (sym (c .before .before .read-operand .ensures ∙ ap readOperand (take-rest (c .before .before .before .before .before .before .args .bytes .now) 1)) ∙ c .enum-told .given .1))
+returns-3 c =
+    let a = c .before .before .before .before .before .before .args in
+    let read-operand = c .before .before .read-operand in
+    sym (destination-constant (a .bytes .now) _ (sym (read-operand .ensures ∙ ap readOperand (take-rest (a .bytes .now) 1))
+    ∙ c .enum-told .given .1))
 
 returns-4 : tie.Need-returns-4
-returns-4 c = sym (destination-missing (c .before .before .before .before .before .before .args .bytes .now) (sym (c .before .before .read-operand .ensures ∙ ap readOperand (take-rest (c .before .before .before .before .before .before .args .bytes .now) 1)) ∙ c .enum-told2 .given .1))
+returns-4 c =
+    let a = c .before .before .before .before .before .before .args in
+    let read-operand = c .before .before .read-operand in
+    sym (destination-missing (a .bytes .now) (sym (read-operand .ensures ∙ ap readOperand (take-rest (a .bytes .now) 1))
+    ∙ c .enum-told2 .given .1))
 
 pub read-record-spec : {M : Type 1} → statement M
 read-record-spec =

@@ -1,6 +1,7 @@
--- `reader::read_statements` meets its contract: the loop's invariant says what remains: the whole answer is that of the statements from i on, put behind those in their slots.
+-- `reader::read_statements` meets its contract. The loop's invariant says what remains: the whole answer is that of the
+-- statements from i on, put behind those in their slots.
 use Rattle.reader.proofs.Turns.{statements-end, statements-stop, statements-more, bytes-left}
-use Rattle.reader.specs.Answers.{noStatements, blockBehind}
+use Rattle.reader.specs.Answers.{noStatements, statementsOf, blockBehind}
 use Rattle.meaning.specs.Format.{readStatements}
 use lib.ListN.{take, drop}
 use native.Mathlib.Nat.{sub-zero}
@@ -15,8 +16,9 @@ abbrev Inv-loop : tie.InvT-loop
 Inv-loop bytes header lengths statements₀ variables arrays count start₀ i₀ statements start i =
     (count ≤ 64)
     × (i ≤ count)
-    × (blockBehind header lengths noStatements 0 (readStatements (header .statements) (header .variables) (take (header .arrays) lengths) bytes)
-    ≡ blockBehind header lengths statements i (readStatements (count - i) (header .variables) (take (header .arrays) lengths) (drop start bytes)))
+    × (blockBehind header lengths noStatements 0 (statementsOf header lengths bytes)
+    ≡ blockBehind header lengths statements i
+    (readStatements (count - i) (header .variables) (take (header .arrays) lengths) (drop start bytes)))
 
 abbrev μ-loop : tie.MeasureT-loop
 μ-loop bytes header lengths statements₀ variables arrays count start₀ i₀ statements start i = count - i
@@ -38,7 +40,16 @@ refuse-requires : tie.Need-refuse-requires Inv-loop μ-loop
 refuse-requires c κs = search needs
 
 returns : tie.Need-returns Inv-loop μ-loop
-returns c = c .refuse .ensures ∙ sym (c .before .before .before .before .before .before .loop .inv .2 ∙ statements-stop (c .before .before .before .before .before .before .before .before .before .args .header) (c .before .before .before .before .before .before .before .before .before .args .lengths .now) (c .before .before .before .before .before .before .before .before .before .args .header .variables) (take (c .before .before .before .before .before .before .before .before .before .args .header .arrays) (c .before .before .before .before .before .before .before .before .before .args .lengths .now)) (c .before .before .before .before .before .before .before .before .before .args .bytes .now) (c .before .before .before .before .before .before .loop .statements) (c .before .before .before .before .before .before .before .wide .result) (c .before .before .before .before .before .before .loop .i) (c .before .before .before .before .before .before .loop .start) _ (c .before .before .before .before .before .loop-test .taken) (sym (c .before .before .before .before .read-next .ensures) ∙ c .before .before .next .given .1))
+returns c =
+    let a = c .before .before .before .before .before .before .before .before .before .args in
+    let wide = c .before .before .before .before .before .before .before .wide in
+    let loop = c .before .before .before .before .before .before .loop in
+    let loop-test = c .before .before .before .before .before .loop-test in
+    let read-next = c .before .before .before .before .read-next in
+    let next = c .before .before .next in
+    c .refuse .ensures ∙ sym (loop .inv .2 ∙ statements-stop (a .header) (a .lengths .now) (a .header .variables)
+    (take (a .header .arrays) (a .lengths .now)) (a .bytes .now) (loop .statements) (wide .result) (loop .i)
+    (loop .start) _ (loop-test .taken) (sym (read-next .ensures) ∙ next .given .1))
 
 enum-known-next-2 : tie.Need-enum-known-next-2 Inv-loop μ-loop
 enum-known-next-2 c = search needs
@@ -56,16 +67,41 @@ loop-less : tie.Need-loop-less Inv-loop μ-loop
 loop-less c = omega arith
 
 loop-again : tie.Need-loop-again Inv-loop μ-loop
-loop-again c = (c .before .before .before .before .before .loop .inv .0, omega arith, c .before .before .before .before .before .loop .inv .2 ∙ statements-more (c .before .before .before .before .before .before .before .before .args .header) (c .before .before .before .before .before .before .before .before .args .lengths .now) (c .before .before .before .before .before .before .before .before .args .header .variables) (take (c .before .before .before .before .before .before .before .before .args .header .arrays) (c .before .before .before .before .before .before .before .before .args .lengths .now)) (c .before .before .before .before .before .before .before .before .args .bytes .now) (c .before .before .before .before .before .loop .statements) (c .before .before .before .before .before .before .wide .result) (c .before .before .before .before .before .loop .i) (c .before .before .before .before .before .loop .start) _ _ (c .before .before .before .before .loop-test .taken) (sym (c .before .before .before .read-next .ensures) ∙ c .before .next2 .given .1))
+loop-again c =
+    let a = c .before .before .before .before .before .before .before .before .args in
+    let wide = c .before .before .before .before .before .before .wide in
+    let loop = c .before .before .before .before .before .loop in
+    let loop-test = c .before .before .before .before .loop-test in
+    let read-next = c .before .before .before .read-next in (
+      loop .inv .0,
+      omega arith,
+      loop .inv .2 ∙ statements-more (a .header) (a .lengths .now) (a .header .variables)
+          (take (a .header .arrays) (a .lengths .now)) (a .bytes .now) (loop .statements) (wide .result) (loop .i)
+          (loop .start) _ _ (loop-test .taken) (sym (read-next .ensures) ∙ c .before .next2 .given .1),
+    )
 
 refuse-requires-2 : tie.Need-refuse-requires-2 Inv-loop μ-loop
 refuse-requires-2 c κs = search needs
 
 returns-2 : tie.Need-returns-2 Inv-loop μ-loop
-returns-2 c = c .refuse2 .ensures ∙ sym (c .before .before .before .loop .inv .2 ∙ bytes-left (c .before .before .before .before .before .before .args .header) (c .before .before .before .before .before .before .args .lengths .now) (c .before .before .before .before .before .before .args .header .variables) (take (c .before .before .before .before .before .before .args .header .arrays) (c .before .before .before .before .before .before .args .lengths .now)) (c .before .before .before .before .before .before .args .bytes .now) (c .before .before .before .loop .statements) (c .before .before .before .before .wide .result) (c .before .before .before .loop .i) (c .before .before .before .loop .start) (c .before .before .loop-test .left) (c .before .if1 .taken))
+returns-2 c =
+    let a = c .before .before .before .before .before .before .args in
+    let wide = c .before .before .before .before .wide in
+    let loop = c .before .before .before .loop in
+    let loop-test = c .before .before .loop-test in
+    c .refuse2 .ensures ∙ sym (loop .inv .2 ∙ bytes-left (a .header) (a .lengths .now) (a .header .variables) (take (a .header .arrays)
+    (a .lengths .now)) (a .bytes .now) (loop .statements) (wide .result) (loop .i) (loop .start) (loop-test .left)
+    (c .before .if1 .taken))
 
 returns-3 : tie.Need-returns-3 Inv-loop μ-loop
-returns-3 c = sym (c .before .before .before .loop .inv .2 ∙ statements-end (c .before .before .before .before .before .before .args .header) (c .before .before .before .before .before .before .args .lengths .now) (c .before .before .before .before .before .before .args .header .variables) (take (c .before .before .before .before .before .before .args .header .arrays) (c .before .before .before .before .before .before .args .lengths .now)) (c .before .before .before .before .before .before .args .bytes .now) (c .before .before .before .loop .statements) (c .before .before .before .before .wide .result) (c .before .before .before .loop .i) (c .before .before .before .loop .start) (c .before .before .loop-test .left) (c .before .if1 .left))
+returns-3 c =
+    let a = c .before .before .before .before .before .before .args in
+    let wide = c .before .before .before .before .wide in
+    let loop = c .before .before .before .loop in
+    let loop-test = c .before .before .loop-test in
+    sym (loop .inv .2 ∙ statements-end (a .header) (a .lengths .now) (a .header .variables) (take (a .header .arrays)
+    (a .lengths .now)) (a .bytes .now) (loop .statements) (wide .result) (loop .i) (loop .start) (loop-test .left)
+    (c .before .if1 .left))
 
 pub read-statements-spec : {M : Type 1} → statement M
 read-statements-spec =

@@ -15,13 +15,18 @@ operand-width-requires : tie.Need-operand-width-requires
 operand-width-requires c κs = search needs
 
 add-result-2 : tie.Need-add-result-2
-add-result-2 c = omega (arith, c .before .place-width .ensures, place-small (c .before .before .args .statement .destination), c .operand-width .ensures, operand-small (c .before .before .args .statement .left))
+add-result-2 c =
+    let a = c .before .before .args in
+    omega (arith, c .before .place-width .ensures, place-small (a .statement .destination), c .operand-width .ensures, operand-small (a .statement .left))
 
 operand-width-requires-2 : tie.Need-operand-width-requires-2
 operand-width-requires-2 c κs = search needs
 
 add-result-3 : tie.Need-add-result-3
-add-result-3 c = omega (arith, c .before .before .place-width .ensures, place-small (c .before .before .before .args .statement .destination), c .before .operand-width .ensures, operand-small (c .before .before .before .args .statement .left), c .operand-width2 .ensures, operand-small (c .before .before .before .args .statement .right))
+add-result-3 c =
+    let a = c .before .before .before .args in
+    let place-width = c .before .before .place-width in
+    omega (arith, place-width .ensures, place-small (a .statement .destination), c .before .operand-width .ensures, operand-small (a .statement .left), c .operand-width2 .ensures, operand-small (a .statement .right))
 
 returns : tie.Need-returns
 returns c = search needs

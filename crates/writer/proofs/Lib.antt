@@ -1,0 +1,6 @@
+pub mod Refused
+pub mod Cells
+pub mod Widths
+pub mod Run
+pub mod Whole
+pub mod Filled
