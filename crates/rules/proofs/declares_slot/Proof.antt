@@ -1,0 +1,21 @@
+use borrow.Author.Needs.{needs}
+use Rattle.rules.proofs.declares_slot.Statement.{statement}
+use Rattle.rules.proofs.declares_slot.Tie as tie
+use Rattle.rules.proofs.declares_slot.Reads as reads
+use Rattle.rules.proofs.declares_slot.Lts as lts
+use Rattle.reader.proofs.declares_operand.Reads as declares-operand-reads
+
+-- src/lib.rt:74:9
+returns : tie.Need-returns
+returns c = ?
+
+-- src/lib.rt:76:5
+declares-operand-requires : tie.Need-declares-operand-requires
+declares-operand-requires c κs = search needs
+
+-- src/lib.rt:63:1
+returns-2 : tie.Need-returns-2
+returns-2 c = ?
+
+pub declares-slot-spec : {M : Type 1} → statement M
+declares-slot-spec = tie.close (tie.spec returns declares-operand-requires returns-2)

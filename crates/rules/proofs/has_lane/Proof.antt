@@ -1,0 +1,25 @@
+use borrow.Author.Needs.{needs}
+use Rattle.rules.proofs.has_lane.Statement.{statement}
+use Rattle.rules.proofs.has_lane.Tie as tie
+use Rattle.rules.proofs.has_lane.Reads as reads
+use Rattle.rules.proofs.has_lane.Lts as lts
+use Rattle.reader.proofs.wide.Reads as wide-reads
+
+-- src/lib.rt:41:9
+wide-requires : tie.Need-wide-requires
+wide-requires c κs = search needs
+
+-- src/lib.rt:43:23
+shared-slice-read-result : tie.Need-shared-slice-read-result
+shared-slice-read-result c = search needs
+
+-- src/lib.rt:43:9
+returns : tie.Need-returns
+returns c = ?
+
+-- src/lib.rt:38:1
+returns-2 : tie.Need-returns-2
+returns-2 c = ?
+
+pub has-lane-spec : {M : Type 1} → statement M
+has-lane-spec = tie.close (tie.spec wide-requires shared-slice-read-result returns returns-2)
