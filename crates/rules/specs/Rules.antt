@@ -8,7 +8,7 @@ use lib.ListN.{length, getD}
 use Rattle.meaning.specs.declared.Operand.{Operand}
 use Rattle.meaning.specs.declared.Place.the-variants.{Variable, Cell}
 use Rattle.meaning.specs.Block.{Block, declaresPlace, declaresOperand}
-use Rattle.meaning.specs.List.{Instruction as Meaning, isNext, isWritten, hasLane, isAllowed}
+use Rattle.meaning.specs.List.{Instruction as Meaning, isNext, isWritten, hasLane, isAllowed, writtenAfter}
 use Rattle.instructions.specs.declared.Instruction.{Instruction}
 use Rattle.instructions.specs.declared.Instruction.the-variants.{Broken, S, L, C, G, Copy, O, W, D, X}
 
@@ -16,6 +16,11 @@ use Rattle.instructions.specs.declared.Instruction.the-variants.{Broken, S, L, 
 abbrev pub oneAllowed : Block → List ℕ → Option Meaning → Bool
 oneAllowed b written none = false
 oneAllowed b written (some instruction) = isAllowed b written instruction
+
+-- the registers written after it
+abbrev pub afterward : List ℕ → Option Meaning → List ℕ
+afterward written none = written
+afterward written (some instruction) = writtenAfter written instruction
 
 -- "k cells in a row", all of them declared
 abbrev pub rowDeclared : List ℕ → ℕ → ℕ → ℕ → Bool
@@ -35,7 +40,7 @@ obeysRules statements variables lengths written (S s) = ltb s statements
 obeysRules statements variables lengths written (L r k a i) = isNext written r && rowDeclared lengths k a i
 obeysRules statements variables lengths written (C r k c₀ c₁ c₂ c₃) = isNext written r
 obeysRules statements variables lengths written (G r k o₀ o₁ o₂ o₃) =
-    isNext written r && slotsDeclared variables lengths k 0 o₀ o₁ && slotsDeclared variables lengths k 2 o₂ o₃
+    isNext written r && (slotsDeclared variables lengths k 0 o₀ o₁ && slotsDeclared variables lengths k 2 o₂ o₃)
 obeysRules statements variables lengths written (Copy r k ra) = isNext written r && isWritten written ra k
 obeysRules statements variables lengths written (O r operation k ra rb) = isNext written r && isWritten written ra k && isWritten written rb k
 obeysRules statements variables lengths written (W r k a i) = isWritten written r k && rowDeclared lengths k a i

@@ -1,3 +1,8 @@
+-- `rules::declares_row` meets its contract: where the array is declared and has a slot, the row's end is compared with that slot.
+use mathlib.Core.Path.{sym}
+use native.Mathlib.Omega.{arith}
+use Rattle.rules.proofs.Rows.{row-declared, row-past, row-undeclared}
+use borrow.Author.Tests.{le-ltb, lt-ltb, le-leb, lt-leb, eq-eqb, ne-eqb}
 use borrow.Author.Needs.{needs}
 use Rattle.rules.proofs.declares_row.Statement.{statement}
 use Rattle.rules.proofs.declares_row.Tie as tie
@@ -5,33 +10,32 @@ use Rattle.rules.proofs.declares_row.Reads as reads
 use Rattle.rules.proofs.declares_row.Lts as lts
 use Rattle.reader.proofs.wide.Reads as wide-reads
 
--- src/lib.rt:53:13
 wide-requires : tie.Need-wide-requires
 wide-requires c κs = search needs
 
--- src/lib.rt:55:24
 mul-size : tie.Need-mul-size
 mul-size c = search needs
 
--- src/lib.rt:55:24
 shared-slice-read-size : tie.Need-shared-slice-read-size
 shared-slice-read-size c = search needs
 
--- src/lib.rt:56:20
 add-result : tie.Need-add-result
 add-result c = search needs
 
--- src/lib.rt:56:13
 returns : tie.Need-returns
-returns c = ?
+returns c =
+    let a = c .before .before .before .before .before .args in
+    rw (c .before .before .wide .ensures) (sym (row-declared (a .arrays) (a .k) (a .array) (a .index) (a .lengths .now) (c .before .before .before .if1 .taken) (omega (arith, c .before .if2 .taken, c .before .before .wide .ensures))))
 
--- src/lib.rt:49:1
 returns-2 : tie.Need-returns-2
-returns-2 c = ?
+returns-2 c =
+    let a = c .before .before .before .before .args in
+    sym (row-past (a .arrays) (a .k) (a .array) (a .index) (a .lengths .now) (omega (arith, c .if2 .left, c .before .wide .ensures)))
 
--- src/lib.rt:49:1
 returns-3 : tie.Need-returns-3
-returns-3 c = ?
+returns-3 c =
+    let a = c .before .before .args in
+    sym (row-undeclared (a .arrays) (a .k) (a .array) (a .index) (a .lengths .now) (c .if1 .left))
 
 pub declares-row-spec : {M : Type 1} → statement M
 declares-row-spec =

@@ -1,3 +1,4 @@
+use borrow.Author.Tests.{le-ltb, lt-ltb, le-leb, lt-leb, eq-eqb, ne-eqb}
 use borrow.Author.Needs.{needs}
 use Rattle.rules.proofs.declares_two.Statement.{statement}
 use Rattle.rules.proofs.declares_two.Tie as tie
@@ -19,11 +20,18 @@ declares-slot-requires-2 c κs = search needs
 
 -- src/lib.rt:92:9
 returns : tie.Need-returns
-returns c = ?
+returns c =
+    simp
+    (c .declares-slot2 .ensures,
+    c .before .if1 .taken,
+    ← c .before .before .declares-slot .ensures)
 
 -- src/lib.rt:79:1
 returns-2 : tie.Need-returns-2
-returns-2 c = ?
+returns-2 c =
+    simp
+    (c .if1 .left,
+    ← c .before .declares-slot .ensures)
 
 pub declares-two-spec : {M : Type 1} → statement M
 declares-two-spec =

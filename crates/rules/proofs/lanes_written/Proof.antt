@@ -1,3 +1,4 @@
+use borrow.Author.Tests.{le-ltb, lt-ltb, le-leb, lt-leb, eq-eqb, ne-eqb}
 use borrow.Author.Needs.{needs}
 use Rattle.rules.proofs.lanes_written.Statement.{statement}
 use Rattle.rules.proofs.lanes_written.Tie as tie
@@ -63,15 +64,23 @@ returns-2 c = search needs
 
 -- src/lib.rt:188:1
 returns-3 : tie.Need-returns-3
-returns-3 c = ?
+returns-3 c =
+    simp
+    (c .before .instruction .given .1)
 
 -- src/lib.rt:188:1
 returns-4 : tie.Need-returns-4
-returns-4 c = ?
+returns-4 c =
+    simp
+    (c .held .ensures,
+    c .before .before .instruction2 .given .1)
 
 -- src/lib.rt:188:1
 returns-5 : tie.Need-returns-5
-returns-5 c = ?
+returns-5 c =
+    simp
+    (c .held2 .ensures,
+    c .before .before .instruction3 .given .1)
 
 -- src/lib.rt:188:1
 returns-6 : tie.Need-returns-6
@@ -79,7 +88,9 @@ returns-6 c = search needs
 
 -- src/lib.rt:188:1
 returns-7 : tie.Need-returns-7
-returns-7 c = ?
+returns-7 c =
+    simp
+    (c .before .instruction5 .given .1)
 
 -- src/lib.rt:188:1
 returns-8 : tie.Need-returns-8

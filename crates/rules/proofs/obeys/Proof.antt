@@ -1,3 +1,4 @@
+use borrow.Author.Tests.{le-ltb, lt-ltb, le-leb, lt-leb, eq-eqb, ne-eqb}
 use borrow.Author.Needs.{needs}
 use Rattle.rules.proofs.obeys.Statement.{statement}
 use Rattle.rules.proofs.obeys.Tie as tie
@@ -37,7 +38,12 @@ declares-row-requires c κs = search needs
 
 -- src/lib.rt:113:17
 returns : tie.Need-returns
-returns c = ?
+returns c =
+    simp
+    (c .declares-row .ensures,
+    c .before .before .if1 .taken,
+    ← c .before .before .before .is-next .ensures,
+    c .before .before .before .before .before .instruction2 .given .1)
 
 -- src/lib.rt:117:26
 enum-known-instruction-3 : tie.Need-enum-known-instruction-3
@@ -65,7 +71,14 @@ declares-two-requires-2 c κs = search needs
 
 -- src/lib.rt:121:21
 returns-2 : tie.Need-returns-2
-returns-2 c = ?
+returns-2 c =
+    simp
+    (c .declares-two2 .ensures,
+    c .before .if3 .taken,
+    ← c .before .before .declares-two .ensures,
+    c .before .before .before .if2 .taken,
+    ← c .before .before .before .before .is-next3 .ensures,
+    c .before .before .before .before .before .before .instruction4 .given .1)
 
 -- src/lib.rt:126:29
 enum-known-instruction-5 : tie.Need-enum-known-instruction-5
@@ -81,7 +94,12 @@ is-written-requires c κs = search needs
 
 -- src/lib.rt:128:17
 returns-3 : tie.Need-returns-3
-returns-3 c = ?
+returns-3 c =
+    simp
+    (c .is-written .ensures,
+    c .before .if4 .taken,
+    ← c .before .before .is-next4 .ensures,
+    c .before .before .before .before .instruction5 .given .1)
 
 -- src/lib.rt:132:26
 enum-known-instruction-6 : tie.Need-enum-known-instruction-6
@@ -101,7 +119,14 @@ is-written-requires-3 c κs = search needs
 
 -- src/lib.rt:135:21
 returns-4 : tie.Need-returns-4
-returns-4 c = ?
+returns-4 c =
+    simp
+    (c .is-written3 .ensures,
+    c .before .if6 .taken,
+    ← c .before .before .is-written2 .ensures,
+    c .before .before .before .if5 .taken,
+    ← c .before .before .before .before .is-next5 .ensures,
+    c .before .before .before .before .before .before .instruction6 .given .1)
 
 -- src/lib.rt:140:26
 enum-known-instruction-7 : tie.Need-enum-known-instruction-7
@@ -117,7 +142,12 @@ declares-row-requires-2 c κs = search needs
 
 -- src/lib.rt:142:17
 returns-5 : tie.Need-returns-5
-returns-5 c = ?
+returns-5 c =
+    simp
+    (c .declares-row2 .ensures,
+    c .before .before .if7 .taken,
+    ← c .before .before .before .is-written4 .ensures,
+    c .before .before .before .before .before .instruction7 .given .1)
 
 -- src/lib.rt:146:26
 enum-known-instruction-8 : tie.Need-enum-known-instruction-8
@@ -133,7 +163,12 @@ declares-place-requires c κs = search needs
 
 -- src/lib.rt:148:17
 returns-6 : tie.Need-returns-6
-returns-6 c = ?
+returns-6 c =
+    simp
+    (c .declares-place .ensures,
+    c .before .if8 .taken,
+    ← c .before .before .has-lane .ensures,
+    c .before .before .before .before .instruction8 .given .1)
 
 -- src/lib.rt:152:26
 enum-known-instruction-9 : tie.Need-enum-known-instruction-9
@@ -149,55 +184,108 @@ declares-place-requires-2 c κs = search needs
 
 -- src/lib.rt:154:17
 returns-7 : tie.Need-returns-7
-returns-7 c = ?
+returns-7 c =
+    simp
+    (c .declares-place2 .ensures,
+    c .before .if9 .taken,
+    ← c .before .before .has-lane2 .ensures,
+    c .before .before .before .before .instruction9 .given .1)
 
 -- src/lib.rt:98:1
 returns-8 : tie.Need-returns-8
-returns-8 c = ?
+returns-8 c =
+    simp
+    (c .enum-told .given .1)
 
 -- src/lib.rt:98:1
 returns-9 : tie.Need-returns-9
-returns-9 c = ?
+returns-9 c =
+    simp
+    (c .wide .ensures,
+    c .before .before .instruction .given .1)
 
 -- src/lib.rt:98:1
 returns-10 : tie.Need-returns-10
-returns-10 c = ?
+returns-10 c =
+    simp
+    (c .if1 .left,
+    ← c .before .is-next .ensures,
+    c .before .before .before .instruction2 .given .1)
 
 -- src/lib.rt:98:1
 returns-11 : tie.Need-returns-11
-returns-11 c = ?
+returns-11 c =
+    simp
+    (c .is-next2 .ensures,
+    c .before .before .instruction3 .given .1)
 
 -- src/lib.rt:98:1
 returns-12 : tie.Need-returns-12
-returns-12 c = ?
+returns-12 c =
+    simp
+    (c .if3 .left,
+    ← c .before .declares-two .ensures,
+    c .before .before .if2 .taken,
+    ← c .before .before .before .is-next3 .ensures,
+    c .before .before .before .before .before .instruction4 .given .1)
 
 -- src/lib.rt:98:1
 returns-13 : tie.Need-returns-13
-returns-13 c = ?
+returns-13 c =
+    simp
+    (c .if2 .left,
+    ← c .before .is-next3 .ensures,
+    c .before .before .before .instruction4 .given .1)
 
 -- src/lib.rt:98:1
 returns-14 : tie.Need-returns-14
-returns-14 c = ?
+returns-14 c =
+    simp
+    (c .if4 .left,
+    ← c .before .is-next4 .ensures,
+    c .before .before .before .instruction5 .given .1)
 
 -- src/lib.rt:98:1
 returns-15 : tie.Need-returns-15
-returns-15 c = ?
+returns-15 c =
+    simp
+    (c .if6 .left,
+    ← c .before .is-written2 .ensures,
+    c .before .before .if5 .taken,
+    ← c .before .before .before .is-next5 .ensures,
+    c .before .before .before .before .before .instruction6 .given .1)
 
 -- src/lib.rt:98:1
 returns-16 : tie.Need-returns-16
-returns-16 c = ?
+returns-16 c =
+    simp
+    (c .if5 .left,
+    ← c .before .is-next5 .ensures,
+    c .before .before .before .instruction6 .given .1)
 
 -- src/lib.rt:98:1
 returns-17 : tie.Need-returns-17
-returns-17 c = ?
+returns-17 c =
+    simp
+    (c .if7 .left,
+    ← c .before .is-written4 .ensures,
+    c .before .before .before .instruction7 .given .1)
 
 -- src/lib.rt:98:1
 returns-18 : tie.Need-returns-18
-returns-18 c = ?
+returns-18 c =
+    simp
+    (c .if8 .left,
+    ← c .before .has-lane .ensures,
+    c .before .before .before .instruction8 .given .1)
 
 -- src/lib.rt:98:1
 returns-19 : tie.Need-returns-19
-returns-19 c = ?
+returns-19 c =
+    simp
+    (c .if9 .left,
+    ← c .before .has-lane2 .ensures,
+    c .before .before .before .instruction9 .given .1)
 
 pub obeys-spec : {M : Type 1} → statement M
 obeys-spec =
