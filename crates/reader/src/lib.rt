@@ -23,13 +23,13 @@ ghost use Rattle.reader.specs.Next.{nextLength, nextStatement};
 // Reading an operand.
 
 // "big-endian": two bytes, and four, as a number.
-fn two(high: u8, low: u8) -> u16
+pub fn two(high: u8, low: u8) -> u16
     ensures { λ r. ⌜ r ≡ high * 256 + low ⌝ }
 {
     high as u16 * 256 + low as u16
 }
 
-fn four(first: u8, second: u8, third: u8, fourth: u8) -> u32
+pub fn four(first: u8, second: u8, third: u8, fourth: u8) -> u32
     ensures { λ r. ⌜ r ≡ ((first * 256 + second) * 256 + third) * 256 + fourth ⌝ }
 {
     ((first as u32 * 256 + second as u32) * 256 + third as u32) * 256 + fourth as u32
@@ -70,7 +70,7 @@ pub fn read_operand(bytes: &[u8]) -> Operand
 }
 
 // The operand that stands at a place of the bytes, past their end too.
-fn operand_at(bytes: &[u8], start: usize) -> Operand
+pub fn operand_at(bytes: &[u8], start: usize) -> Operand
     ensures { λ r. ⌜ r ≡ readOperand (drop start (now (bytes .entry))) ⌝ }
 {
     if start <= bytes.len() {
@@ -194,7 +194,7 @@ pub fn read_record(bytes: &[u8]) -> Record
 
 // What is declared.
 
-fn wide(x: u8) -> usize
+pub fn wide(x: u8) -> usize
     ensures { λ r. ⌜ r ≡ x ⌝ }
 {
     x as usize

@@ -1,0 +1,4 @@
+pub mod Gathers
+pub mod Constants
+pub mod Codes
+pub mod Places
