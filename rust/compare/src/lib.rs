@@ -1,0 +1,53 @@
+//! The proved library's calls, safe to call from Rust: slices go as pointer and length, and what
+//! comes back in one number is taken apart.
+
+mod exported {
+    extern "C" {
+        pub fn nephinor_run_block(
+            bytes: *const u8,
+            bytes_length: usize,
+            variables: *mut u32,
+            variables_length: usize,
+            cells: *mut u32,
+            cells_length: usize,
+        ) -> u64;
+    }
+}
+
+/// What every call returns: the status, a size, and up to two prices, zeros where there is none.
+#[derive(Clone, Copy, Debug, PartialEq, Eq)]
+pub struct Answer {
+    pub status: u8,
+    pub size: u16,
+    pub price: u16,
+    pub list_price: u16,
+}
+
+impl Answer {
+    /// Bits 0 to 7, 8 to 23, 24 to 39 and 40 to 55; the bits above them are never set.
+    fn unpacked(number: u64) -> Answer {
+        assert_eq!(number >> 56, 0, "bits above the answer are set: {number:#x}");
+        Answer {
+            status: number as u8,
+            size: (number >> 8) as u16,
+            price: (number >> 24) as u16,
+            list_price: (number >> 40) as u16,
+        }
+    }
+}
+
+/// Runs a block on what is lent: status and price paid.
+pub fn run_block(bytes: &[u8], variables: &mut [u32], cells: &mut [u32]) -> Answer {
+    // SAFETY: each pointer stands with the length of its own slice, and the two that are written
+    // are borrowed for the call alone. The library keeps none of them.
+    Answer::unpacked(unsafe {
+        exported::nephinor_run_block(
+            bytes.as_ptr(),
+            bytes.len(),
+            variables.as_mut_ptr(),
+            variables.len(),
+            cells.as_mut_ptr(),
+            cells.len(),
+        )
+    })
+}
