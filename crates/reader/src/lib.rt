@@ -111,7 +111,7 @@ pub fn statement_width(statement: Statement) -> usize
 
 // Reading a record.
 
-fn is_operand(operand: Operand) -> bool
+pub fn is_operand(operand: Operand) -> bool
     ensures { λ r. ⌜ r ≡ isOperand operand ⌝ }
 {
     match operand {
