@@ -31,3 +31,16 @@ pub mod Frames
 pub mod Outcome
 pub mod LentFrames
 pub mod Faithful
+pub mod Occurs
+pub mod Orders
+pub mod Strokes
+pub mod Totals
+pub mod Chains
+pub mod Pairs
+pub mod Pairing
+pub mod Combination
+pub mod Waiting
+pub mod Ready
+pub mod Schedule
+pub mod ScheduleRuns
+pub mod Demand

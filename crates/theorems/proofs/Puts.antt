@@ -96,4 +96,11 @@ ran-swap s t m free =
 
 -- And a conflict goes both ways.
 pub conflicts-back : (s t : Statement) → conflicts s t ≡ false → conflicts t s ≡ false
-conflicts-back s t free = rw (neither-left (reads s (t .destination)) _ (neither-left _ _ free), neither-right (reads s (t .destination)) _ (neither-left _ _ free), same-back (t .destination) (s .destination)) (neither-right (reads s (t .destination) || reads t (s .destination)) _ free)
+conflicts-back s t free =
+    rw (s-blind, t-blind, same-back (t .destination) (s .destination)) (neither-right (reads s (t .destination) || reads t (s .destination)) _ free)
+  where
+    s-blind : reads s (t .destination) ≡ false
+    s-blind = neither-left _ _ (neither-left _ _ free)
+
+    t-blind : reads t (s .destination) ≡ false
+    t-blind = neither-right (reads s (t .destination)) _ (neither-left _ _ free)
