@@ -43,4 +43,4 @@ pub mod Frames
 pub mod Outcome
 pub mod LentFrames
 pub mod Faithful
-pub mod DemandThree
+pub mod Demand
