@@ -1,0 +1,236 @@
+// What the phases ask of a block's statements, worked out once: a number for each operand and
+// place, for each place the statements that name it, and from these the dependences.
+
+use meaning::Block;
+use meaning::Operand;
+use meaning::Place;
+use meaning::Statement;
+
+// Operands as numbers, different ones for different operands. Only cells that stand in a row have
+// numbers in a row: variables and constants leave a number out, and so does each array's end.
+
+pub fn place_code(place: Place) -> u64 {
+    match place {
+        Place::Variable(v) => 2 + 2 * v as u64,
+        Place::Cell(a, i) => 514 + 257 * a as u64 + i as u64,
+    }
+}
+
+pub fn operand_code(operand: Operand) -> u64 {
+    match operand {
+        Operand::Nothing => 0,
+        Operand::Constant(c) => 4294967296 + 2 * c as u64,
+        Operand::Held(place) => place_code(place),
+    }
+}
+
+// "cells in a row"
+pub fn in_row(code: u64, other: u64) -> bool {
+    if code < other { other - code == 1 } else { false }
+}
+
+pub fn is_cell(code: u64) -> bool {
+    if code < 514 { false } else { code < 4294967296 }
+}
+
+pub fn is_constant(code: u64) -> bool {
+    4294967296 <= code
+}
+
+pub fn is_variable(code: u64) -> bool {
+    if code < 2 { false } else { code < 514 }
+}
+
+// The facts of each statement, in columns of 64: the codes of its destination and its operands, its
+// sort (operation and kind of destination), its price, the last definitions of its operands, and
+// the statements that read its result.
+
+pub const DESTINATION: usize = 0;
+pub const LEFT: usize = 64;
+pub const RIGHT: usize = 128;
+pub const SORT: usize = 192;
+pub const PRICE: usize = 256;
+pub const LEFT_DEFINITION: usize = 320;
+pub const RIGHT_DEFINITION: usize = 384;
+pub const READERS: usize = 448;
+
+pub fn fact(facts: &[u64], column: usize, s: usize) -> u64 {
+    if s < 64 {
+        return rows::word_at(facts, column + s);
+    }
+    0
+}
+
+fn cell_count(code: u64) -> u64 {
+    if is_cell(code) { 1 } else { 0 }
+}
+
+// The columns that a statement fills by itself.
+fn state_facts(facts: &mut [u64], i: usize, s: Statement) {
+    let destination = s.destination;
+    let left = s.left;
+    let right = s.right;
+    let d = place_code(destination);
+    let l = operand_code(left);
+    let r = operand_code(right);
+    rows::set_word(facts, DESTINATION + i, d);
+    rows::set_word(facts, LEFT + i, l);
+    rows::set_word(facts, RIGHT + i, r);
+    rows::set_word(facts, SORT + i, 2 * s.operation as u64 + cell_count(d));
+    rows::set_word(facts, PRICE + i, cell_count(l) + cell_count(r) + 1 + cell_count(d));
+}
+
+pub fn fill_facts(block: Block, n: usize, facts: &mut [u64]) {
+    let mut i: usize = 0;
+    while i < n {
+        let s = block.statements[i];
+        state_facts(facts, i, s);
+        i += 1;
+    }
+}
+
+// Places are few: each gets a number from 1 up, so that tables of rows stay small. 0 is the number
+// of what is no place, and of a place that the block does not name.
+
+fn number_place(numbers: &mut [u8], code: u64, given: u8) -> u8 {
+    let at = code as usize;
+    if at < numbers.len() {
+        if at > 0 {
+            if numbers[at] == 0 {
+                numbers[at] = given + 1;
+                return given + 1;
+            }
+        }
+    }
+    given
+}
+
+// One column's places numbered, behind those that have numbers already.
+pub fn number_places(facts: &[u64], column: usize, n: usize, numbers: &mut [u8], given: u8) -> u8 {
+    let mut used = given;
+    let mut i: usize = 0;
+    while i < n {
+        used = number_place(numbers, fact(facts, column, i), used);
+        i += 1;
+    }
+    used
+}
+
+fn place_number(numbers: &[u8], code: u64) -> usize {
+    rows::byte_at(numbers, code as usize) as usize
+}
+
+// For each place the statements that name it in this column.
+pub fn named_in(facts: &[u64], column: usize, n: usize, numbers: &[u8]) -> [u64; 193] {
+    let mut named = [0u64; 193];
+    let mut i: usize = 0;
+    while i < n {
+        let number = place_number(numbers, fact(facts, column, i));
+        if number > 0 {
+            if number < 193 {
+                named[number] = named[number] | rows::only(i);
+            }
+        }
+        i += 1;
+    }
+    named
+}
+
+// The statements that name what the code stands for, of a table that `named_in` made.
+pub fn naming(numbers: &[u8], named: &[u64], code: u64) -> u64 {
+    rows::word_at(named, place_number(numbers, code))
+}
+
+// "A later statement depends on an earlier one if it reads what that one writes, writes what that
+// one reads, or writes the same place."
+fn depends_on(s: Statement, i: usize, numbers: &[u8], writers: &[u64], lefts: &[u64], rights: &[u64]) -> u64 {
+    let destination = s.destination;
+    let left = s.left;
+    let right = s.right;
+    let d = place_code(destination);
+    let read = naming(numbers, writers, operand_code(left)) | naming(numbers, writers, operand_code(right));
+    let written = naming(numbers, lefts, d) | naming(numbers, rights, d) | naming(numbers, writers, d);
+    (read | written) & rows::below(i)
+}
+
+pub fn dependences(block: Block, n: usize, numbers: &[u8], writers: &[u64], lefts: &[u64], rights: &[u64]) -> [u64; 64] {
+    let mut direct = [0u64; 64];
+    let mut i: usize = 0;
+    while i < n {
+        let s = block.statements[i];
+        direct[i] = depends_on(s, i, numbers, writers, lefts, rights);
+        i += 1;
+    }
+    direct
+}
+
+// What a statement depends on, and all that each of those reaches.
+fn reached_by(direct: u64, reached: &[u64]) -> u64 {
+    let mut row = direct;
+    let mut rest = direct;
+    while rest != 0 {
+        row = row | rows::word_at(reached, rows::first(rest));
+        rest = rows::behind_first(rest);
+    }
+    row
+}
+
+pub fn reachability(direct: &[u64], n: usize) -> [u64; 64] {
+    let mut reached = [0u64; 64];
+    let mut i: usize = 0;
+    while i < n {
+        let row = reached_by(rows::word_at(direct, i), &reached);
+        reached[i] = row;
+        i += 1;
+    }
+    reached
+}
+
+// "Two different statements are independent if no path of dependences joins them."
+pub fn independent(reached: &[u64], s: usize, t: usize) -> bool {
+    if s == t {
+        return false;
+    }
+    if rows::has(rows::word_at(reached, s), t) {
+        return false;
+    }
+    if rows::has(rows::word_at(reached, t), s) {
+        return false;
+    }
+    true
+}
+
+// The last definition of an operand before its reader, where that is a variable and has one.
+fn definition(code: u64, reader: usize, numbers: &[u8], writers: &[u64]) -> usize {
+    if is_variable(code) {
+        return rows::last(naming(numbers, writers, code) & rows::below(reader));
+    }
+    rows::NONE
+}
+
+pub fn fill_definitions(facts: &mut [u64], n: usize, numbers: &[u8], writers: &[u64]) {
+    let mut i: usize = 0;
+    while i < n {
+        let l = definition(fact(facts, LEFT, i), i, numbers, writers);
+        let r = definition(fact(facts, RIGHT, i), i, numbers, writers);
+        rows::set_word(facts, LEFT_DEFINITION + i, l as u64);
+        rows::set_word(facts, RIGHT_DEFINITION + i, r as u64);
+        i += 1;
+    }
+}
+
+fn add_reader(facts: &mut [u64], defined: u64, reader: usize) {
+    if defined < 64 {
+        rows::join_word(facts, READERS + defined as usize, rows::only(reader));
+    }
+}
+
+// The readers of each statement's result: "the reader's last definition is that statement".
+pub fn fill_readers(facts: &mut [u64], n: usize) {
+    let mut i: usize = 0;
+    while i < n {
+        add_reader(facts, fact(facts, LEFT_DEFINITION, i), i);
+        add_reader(facts, fact(facts, RIGHT_DEFINITION, i), i);
+        i += 1;
+    }
+}

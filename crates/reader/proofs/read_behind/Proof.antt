@@ -1,0 +1,91 @@
+-- `reader::read_behind` meets its contract: the statement that is put together is the one that the bytes say, and it is tested as they say.
+use Rattle.reader.proofs.Records.{put-together, is-whole, wrong-width, ill-formed}
+use mathlib.Core.Path.{sym, _∙_}
+use Rattle.reader.proofs.Operands.{place-small, operand-small}
+use native.Mathlib.Omega.{arith}
+use borrow.Author.Needs.{needs}
+use Rattle.reader.proofs.read_behind.Statement.{statement}
+use Rattle.reader.proofs.read_behind.Tie as tie
+
+place-width-requires : tie.Need-place-width-requires
+place-width-requires c κs = search needs
+
+add-behind : tie.Need-add-behind
+add-behind c = omega (arith, c .place-width .ensures, place-small (c .before .before .args .destination))
+
+operand-at-requires : tie.Need-operand-at-requires
+operand-at-requires c κs = search needs
+
+operand-width-requires : tie.Need-operand-width-requires
+operand-width-requires c κs = search needs
+
+add-right-at : tie.Need-add-right-at
+add-right-at c =
+    omega (arith, c .before .before .place-width .ensures, place-small (c .before .before .before .before .args .destination), c .operand-width .ensures, operand-small (c .before .operand-at .result))
+
+right-at-requires : tie.Need-right-at-requires
+right-at-requires c κs = search needs
+
+well-formed-requires : tie.Need-well-formed-requires
+well-formed-requires c κs = search needs
+
+statement-width-requires : tie.Need-statement-width-requires
+statement-width-requires c κs = search needs
+
+returns : tie.Need-returns
+returns c =
+    let a = c .before .before .before .before .before .before .before .before .before .args in
+    is-whole (a .bytes .now) _ _ (put-together (a .bytes .now) (a .operation) (a .destination)
+    (c .before .before .before .before .before .before .operand-at .result)
+    (c .before .before .before .before .right-at .result)
+    (c .before .before .before .before .before .before .before .place-width .result)
+    (c .before .before .before .before .before .operand-width .result)
+    (c .before .before .before .before .before .before .before .before .before .pre)
+    (c .before .before .before .before .before .before .before .place-width .ensures)
+    (c .before .before .before .before .before .before .operand-at .ensures)
+    (c .before .before .before .before .before .operand-width .ensures)
+    (c .before .before .before .before .right-at .ensures)) (sym (c .before .before .before .well-formed .ensures)
+    ∙ c .before .before .if1 .taken) (c .if2 .taken ∙ c .before .statement-width .ensures)
+
+returns-2 : tie.Need-returns-2
+returns-2 c =
+    let a = c .before .before .before .before .before .before .before .before .before .args in
+    wrong-width (a .bytes .now) _ _ (put-together (a .bytes .now) (a .operation) (a .destination)
+    (c .before .before .before .before .before .before .operand-at .result)
+    (c .before .before .before .before .right-at .result)
+    (c .before .before .before .before .before .before .before .place-width .result)
+    (c .before .before .before .before .before .operand-width .result)
+    (c .before .before .before .before .before .before .before .before .before .pre)
+    (c .before .before .before .before .before .before .before .place-width .ensures)
+    (c .before .before .before .before .before .before .operand-at .ensures)
+    (c .before .before .before .before .before .operand-width .ensures)
+    (c .before .before .before .before .right-at .ensures)) (λ e. c .if2 .left (e ∙ sym (c .before .statement-width .ensures)))
+
+returns-3 : tie.Need-returns-3
+returns-3 c =
+    let a = c .before .before .before .before .before .before .before .args in
+    ill-formed (a .bytes .now) _ _ (put-together (a .bytes .now) (a .operation) (a .destination)
+    (c .before .before .before .before .operand-at .result) (c .before .before .right-at .result)
+    (c .before .before .before .before .before .place-width .result)
+    (c .before .before .before .operand-width .result)
+    (c .before .before .before .before .before .before .before .pre)
+    (c .before .before .before .before .before .place-width .ensures)
+    (c .before .before .before .before .operand-at .ensures)
+    (c .before .before .before .operand-width .ensures) (c .before .before .right-at .ensures)) (sym (c .before .well-formed .ensures)
+    ∙ c .if1 .left)
+
+pub read-behind-spec : {M : Type 1} → statement M
+read-behind-spec =
+    tie.close
+    (tie.spec
+    place-width-requires
+    add-behind
+    operand-at-requires
+    operand-width-requires
+    add-right-at
+    right-at-requires
+    well-formed-requires
+    statement-width-requires
+    returns
+    returns-2
+    returns-3)
