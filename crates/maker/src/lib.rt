@@ -1,5 +1,10 @@
 // Making a list: the phases one after the other, the choice, and the answer in the lent room.
 
+ghost use mathlib.Core.Path.{_≡_};
+ghost use mathlib.Core.List.{_++_};
+ghost use Prim.Native.Nat.{_≤_};
+ghost use lib.ListN.{length, take, drop};
+
 use encode::Written;
 use meaning::Block;
 
@@ -46,14 +51,13 @@ fn choose(out: &mut [u8], facts: &[u64], n: usize, packed: Written, price: u64) 
     write_plain(out, facts, n)
 }
 
-fn copy_into(room: &mut [u8], out: &[u8], size: usize) {
+fn copy_into(room: &mut [u8], out: &[u8], size: usize)
+    requires { ⌜ (size ≤ length (now room)) × (size ≤ length (now out)) ⌝ }
+    ensures { λ r. ⌜ now (room .exit) ≡ take size (now (out .entry)) ++ drop size (now (room .entry)) ⌝ }
+{
     let mut i: usize = 0;
     while i < size {
-        if i < out.len() {
-            if i < room.len() {
-                room[i] = out[i];
-            }
-        }
+        room[i] = out[i];
         i += 1;
     }
 }
@@ -65,21 +69,22 @@ fn schedule_units(block: Block, n: usize, facts: &[u64], numbers: &[u8], writers
     let mut order = [64u8; 64];
     let mut next = [64u8; 64];
     let mut waiting = [64u8; 320];
+    let mut needs = [0u64; 64];
     let seeded = pairs::seed(block, n, facts, reached, numbers, writers, lefts, rights, &mut order, &mut next);
     let admitted = extend::extend(n, facts, reached, &mut order, &mut next, seeded);
-    let all = units::combine(n, reached, &next, admitted.rights, &mut waiting);
-    units::schedule(n, direct, &mut waiting, all, scheduled)
+    let all = units::combine(n, reached, &direct, &next, admitted.rights, &mut waiting, &mut needs);
+    units::schedule(n, &direct, &mut waiting, &mut needs, all, scheduled)
 }
 
 // The bytes of the packed list.
 fn write_packed(block: Block, n: usize, facts: &mut [u64], out: &mut [u8]) -> Written {
     let mut numbers = [0u8; 2570];
-    let first = reach::number_places(facts, reach::DESTINATION, n, &mut numbers, 0);
-    let second = reach::number_places(facts, reach::LEFT, n, &mut numbers, first);
-    reach::number_places(facts, reach::RIGHT, n, &mut numbers, second);
-    let writers = reach::named_in(facts, reach::DESTINATION, n, &numbers);
-    let lefts = reach::named_in(facts, reach::LEFT, n, &numbers);
-    let rights = reach::named_in(facts, reach::RIGHT, n, &numbers);
+    let mut writers = [0u64; 193];
+    let mut lefts = [0u64; 193];
+    let mut rights = [0u64; 193];
+    let first = reach::name_places(facts, reach::DESTINATION, n, &mut numbers, &mut writers, 0);
+    let second = reach::name_places(facts, reach::LEFT, n, &mut numbers, &mut lefts, first);
+    reach::name_places(facts, reach::RIGHT, n, &mut numbers, &mut rights, second);
     reach::fill_definitions(facts, n, &numbers, &writers);
     reach::fill_readers(facts, n);
     let mut scheduled = [64u8; 320];

@@ -92,51 +92,43 @@ pub fn fill_facts(block: Block, n: usize, facts: &mut [u64]) {
 // Places are few: each gets a number from 1 up, so that tables of rows stay small. 0 is the number
 // of what is no place, and of a place that the block does not name.
 
-fn number_place(numbers: &mut [u8], code: u64, given: u8) -> u8 {
-    let at = code as usize;
-    if at < numbers.len() {
-        if at > 0 {
-            if numbers[at] == 0 {
-                numbers[at] = given + 1;
-                return given + 1;
-            }
-        }
-    }
-    given
-}
-
-// One column's places numbered, behind those that have numbers already.
-pub fn number_places(facts: &[u64], column: usize, n: usize, numbers: &mut [u8], given: u8) -> u8 {
-    let mut used = given;
-    let mut i: usize = 0;
-    while i < n {
-        used = number_place(numbers, fact(facts, column, i), used);
-        i += 1;
-    }
-    used
-}
-
 fn place_number(numbers: &[u8], code: u64) -> usize {
     rows::byte_at(numbers, code as usize) as usize
 }
 
-// For each place the statements that name it in this column.
-pub fn named_in(facts: &[u64], column: usize, n: usize, numbers: &[u8]) -> [u64; 193] {
-    let mut named = [0u64; 193];
-    let mut i: usize = 0;
-    while i < n {
-        let number = place_number(numbers, fact(facts, column, i));
-        if number > 0 {
-            if number < 193 {
-                named[number] = named[number] | rows::only(i);
-            }
-        }
-        i += 1;
+// Statement i names the place: a number for it if it has none yet, and i among those that name it.
+// Back comes how many numbers are given.
+fn name_place(numbers: &mut [u8], named: &mut [u64], code: u64, i: usize, given: u8) -> u8 {
+    let at = code as usize;
+    if at >= numbers.len() {
+        return given;
     }
-    named
+    if at == 0 {
+        return given;
+    }
+    let number = numbers[at];
+    if number != 0 {
+        rows::join_word(named, number as usize, rows::only(i));
+        return given;
+    }
+    numbers[at] = given + 1;
+    rows::join_word(named, given as usize + 1, rows::only(i));
+    given + 1
 }
 
-// The statements that name what the code stands for, of a table that `named_in` made.
+// For each place the statements that name it in this column. Numbers go on from those that earlier
+// columns were given.
+pub fn name_places(facts: &[u64], column: usize, n: usize, numbers: &mut [u8], named: &mut [u64], before: u8) -> u8 {
+    let mut given = before;
+    let mut i: usize = 0;
+    while i < n {
+        given = name_place(numbers, named, fact(facts, column, i), i, given);
+        i += 1;
+    }
+    given
+}
+
+// The statements that name what the code stands for, of a table that `name_places` filled.
 pub fn naming(numbers: &[u8], named: &[u64], code: u64) -> u64 {
     rows::word_at(named, place_number(numbers, code))
 }

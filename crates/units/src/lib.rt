@@ -1,7 +1,8 @@
 // "Combination": chains cut into packs and singles; and "Schedule": the order of these units.
 //
 // Units that wait stand in a table by their lowest statement number, five bytes each: the lanes,
-// NONE where there is none, and their count.
+// NONE where there is none, and their count. `needs` has for each of them what it waits for: all
+// that its statements depend on.
 
 // "A unit is a pack or a single statement": its statements in the order of their lanes.
 pub struct Unit {
@@ -35,6 +36,11 @@ fn single(s: usize) -> Unit {
 
 fn pack_of_two(s: usize, t: usize) -> Unit {
     Unit { lanes: [s as u8, t as u8, 64, 64], count: 2 }
+}
+
+// Lanes as a set: what is not there is not in it.
+fn member(lane: u8) -> u64 {
+    if lane < 64 { rows::only(lane as usize) } else { 0 }
 }
 
 // Combination.
@@ -94,8 +100,23 @@ fn last_lane(unit: Unit) -> usize {
     unit.lanes[0] as usize
 }
 
+// What a unit's statements depend on.
+fn needed(direct: &[u64], unit: Unit) -> u64 {
+    let first = rows::word_at(direct, unit.lanes[0] as usize) | rows::word_at(direct, unit.lanes[1] as usize);
+    let second = rows::word_at(direct, unit.lanes[2] as usize) | rows::word_at(direct, unit.lanes[3] as usize);
+    first | second
+}
+
+// The unit waits from now on.
+fn wait(direct: &[u64], units: &mut [u8], needs: &mut [u64], unit: Unit) -> u64 {
+    let low = lowest(unit);
+    set_unit(units, low, unit);
+    rows::set_word(needs, low, needed(direct, unit));
+    member(low as u8)
+}
+
 // "A chain is cut from its left end." Back comes the set of all units so far, by lowest number.
-fn cut(n: usize, reached: &[u64], next: &[u8], start: usize, units: &mut [u8], before: u64) -> u64 {
+fn cut(n: usize, reached: &[u64], direct: &[u64], next: &[u8], start: usize, units: &mut [u8], needs: &mut [u64], before: u64) -> u64 {
     let mut waiting = before;
     let mut at = start;
     let mut i: usize = 0;
@@ -104,9 +125,7 @@ fn cut(n: usize, reached: &[u64], next: &[u8], start: usize, units: &mut [u8], b
             return waiting;
         }
         let unit = next_unit(reached, next, at);
-        let low = lowest(unit);
-        set_unit(units, low, unit);
-        waiting = waiting | rows::only(low);
+        waiting = waiting | wait(direct, units, needs, unit);
         at = rows::number_at(next, last_lane(unit));
         i += 1;
     }
@@ -114,18 +133,18 @@ fn cut(n: usize, reached: &[u64], next: &[u8], start: usize, units: &mut [u8], b
 }
 
 // A longest chain begins at a statement that is right in no pair.
-fn cut_from(n: usize, reached: &[u64], next: &[u8], rights: u64, s: usize, units: &mut [u8], before: u64) -> u64 {
+fn cut_from(n: usize, reached: &[u64], direct: &[u64], next: &[u8], rights: u64, s: usize, units: &mut [u8], needs: &mut [u64], before: u64) -> u64 {
     if rows::has(rights, s) {
         return before;
     }
-    cut(n, reached, next, s, units, before)
+    cut(n, reached, direct, next, s, units, needs, before)
 }
 
-pub fn combine(n: usize, reached: [u64; 64], next: &[u8], rights: u64, units: &mut [u8]) -> u64 {
+pub fn combine(n: usize, reached: [u64; 64], direct: &[u64], next: &[u8], rights: u64, units: &mut [u8], needs: &mut [u64]) -> u64 {
     let mut waiting: u64 = 0;
     let mut s: usize = 0;
     while s < n {
-        waiting = cut_from(n, &reached, next, rights, s, units, waiting);
+        waiting = cut_from(n, &reached, direct, next, rights, s, units, needs, waiting);
         s += 1;
     }
     waiting
@@ -141,18 +160,15 @@ pub struct Progress {
 }
 
 // "It is ready when all that its statements depend on is scheduled."
-fn is_ready(direct: &[u64], unit: Unit, scheduled: u64) -> bool {
-    let first = rows::word_at(direct, unit.lanes[0] as usize) | rows::word_at(direct, unit.lanes[1] as usize);
-    let second = rows::word_at(direct, unit.lanes[2] as usize) | rows::word_at(direct, unit.lanes[3] as usize);
-    let needed = first | second;
+fn is_ready(needed: u64, scheduled: u64) -> bool {
     needed & scheduled == needed
 }
 
-fn lowest_ready(direct: &[u64], units: &[u8], waiting: u64, scheduled: u64) -> usize {
+fn lowest_ready(needs: &[u64], waiting: u64, scheduled: u64) -> usize {
     let mut rest = waiting;
     while rest != 0 {
         let at = rows::first(rest);
-        if is_ready(direct, unit_at(units, at), scheduled) {
+        if is_ready(rows::word_at(needs, at), scheduled) {
             return at;
         }
         rest = rows::behind_first(rest);
@@ -173,10 +189,6 @@ fn lowest_pack(units: &[u8], waiting: u64) -> usize {
     rows::NONE
 }
 
-fn member(lane: u8) -> u64 {
-    if lane < 64 { rows::only(lane as usize) } else { 0 }
-}
-
 fn members(unit: Unit) -> u64 {
     member(unit.lanes[0]) | member(unit.lanes[1]) | member(unit.lanes[2]) | member(unit.lanes[3])
 }
@@ -195,20 +207,21 @@ fn take(units: &[u8], order: &mut [u8], progress: Progress, at: usize) -> Progre
     }
 }
 
-fn set_single(units: &mut [u8], lane: u8) {
+fn wait_single(direct: &[u64], units: &mut [u8], needs: &mut [u64], lane: u8) -> u64 {
     if lane < 64 {
-        set_unit(units, lane as usize, single(lane as usize));
+        return wait(direct, units, needs, single(lane as usize));
     }
+    0
 }
 
-fn dissolve(units: &mut [u8], progress: Progress, at: usize) -> Progress {
+fn dissolve(direct: &[u64], units: &mut [u8], needs: &mut [u64], progress: Progress, at: usize) -> Progress {
     let unit = unit_at(units, at);
-    set_single(units, unit.lanes[0]);
-    set_single(units, unit.lanes[1]);
-    set_single(units, unit.lanes[2]);
-    set_single(units, unit.lanes[3]);
+    let first = wait_single(direct, units, needs, unit.lanes[0]);
+    let second = wait_single(direct, units, needs, unit.lanes[1]);
+    let third = wait_single(direct, units, needs, unit.lanes[2]);
+    let fourth = wait_single(direct, units, needs, unit.lanes[3]);
     Progress {
-        waiting: progress.waiting | members(unit),
+        waiting: progress.waiting | first | second | third | fourth,
         scheduled: progress.scheduled,
         count: progress.count,
     }
@@ -216,27 +229,27 @@ fn dissolve(units: &mut [u8], progress: Progress, at: usize) -> Progress {
 
 // "Take the ready unit with the lowest statement number. If none is ready, dissolve the waiting pack
 // with the lowest statement number into singles."
-fn step(direct: &[u64], units: &mut [u8], order: &mut [u8], progress: Progress) -> Progress {
-    let ready = lowest_ready(direct, units, progress.waiting, progress.scheduled);
+fn step(direct: &[u64], units: &mut [u8], needs: &mut [u64], order: &mut [u8], progress: Progress) -> Progress {
+    let ready = lowest_ready(needs, progress.waiting, progress.scheduled);
     if ready < rows::NONE {
         return take(units, order, progress, ready);
     }
     let pack = lowest_pack(units, progress.waiting);
     if pack < rows::NONE {
-        return dissolve(units, progress, pack);
+        return dissolve(direct, units, needs, progress, pack);
     }
     progress
 }
 
 // The scheduled units stand in `order`, and back comes how many they are.
-pub fn schedule(n: usize, direct: [u64; 64], units: &mut [u8], waiting: u64, order: &mut [u8]) -> usize {
+pub fn schedule(n: usize, direct: &[u64], units: &mut [u8], needs: &mut [u64], waiting: u64, order: &mut [u8]) -> usize {
     let mut progress = Progress { waiting, scheduled: 0, count: 0 };
     let mut i: usize = 0;
     while i < n + n {
         if progress.waiting == 0 {
             return progress.count;
         }
-        progress = step(&direct, units, order, progress);
+        progress = step(direct, units, needs, order, progress);
         i += 1;
     }
     progress.count
