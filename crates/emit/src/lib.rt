@@ -292,7 +292,7 @@ fn emit_unit(out: &mut [u8], homes: &mut [u16], registers: &mut [u64], facts: &[
     emit_pack(out, homes, registers, facts, numbers, writers, e, unit)
 }
 
-fn emit_units(out: &mut [u8], homes: &mut [u16], registers: &mut [u64], facts: &[u64], numbers: &[u8], writers: &[u64], order: &[u8], count: usize) -> Emitted {
+fn emit_units(out: &mut [u8], homes: &mut [u16], registers: &mut [u64], facts: &[u64], numbers: &[u8], writers: &[u64], order: &[u64], count: usize) -> Emitted {
     let start = encode::nothing_written();
     let mut e = Emitted { written: start, registers: 0, done: 0 };
     let mut i: usize = 0;
@@ -315,7 +315,7 @@ fn extract_live(out: &mut [u8], homes: &mut [u16], from: Written, live: u8) -> W
     w
 }
 
-pub fn emission(out: &mut [u8], facts: &[u64], numbers: &[u8], writers: &[u64], order: &[u8], count: usize, live: u8) -> Written {
+pub fn emission(out: &mut [u8], facts: &[u64], numbers: &[u8], writers: &[u64], order: &[u64], count: usize, live: u8) -> Written {
     let mut homes = [0u16; 257];
     let mut registers = [0u64; 480];
     let e = emit_units(out, &mut homes, &mut registers, facts, numbers, writers, order, count);

@@ -63,12 +63,12 @@ fn copy_into(room: &mut [u8], out: &[u8], size: usize)
 }
 
 // The units of a block in scheduled order: seed, extend, combine, schedule.
-fn schedule_units(block: Block, n: usize, facts: &[u64], numbers: &[u8], writers: &[u64], lefts: &[u64], rights: &[u64], scheduled: &mut [u8]) -> usize {
+fn schedule_units(block: Block, n: usize, facts: &[u64], numbers: &[u8], writers: &[u64], lefts: &[u64], rights: &[u64], scheduled: &mut [u64]) -> usize {
     let direct = reach::dependences(block, n, numbers, writers, lefts, rights);
     let reached = reach::reachability(&direct, n);
     let mut order = [64u8; 64];
     let mut next = [64u8; 64];
-    let mut waiting = [64u8; 320];
+    let mut waiting = [0u64; 64];
     let mut needs = [0u64; 64];
     let seeded = pairs::seed(block, n, facts, reached, numbers, writers, lefts, rights, &mut order, &mut next);
     let admitted = extend::extend(n, facts, reached, &mut order, &mut next, seeded);
@@ -87,7 +87,7 @@ fn write_packed(block: Block, n: usize, facts: &mut [u64], out: &mut [u8]) -> Wr
     reach::name_places(facts, reach::RIGHT, n, &mut numbers, &mut rights, second);
     reach::fill_definitions(facts, n, &numbers, &writers);
     reach::fill_readers(facts, n);
-    let mut scheduled = [64u8; 320];
+    let mut scheduled = [0u64; 64];
     let count = schedule_units(block, n, facts, &numbers, &writers, &lefts, &rights, &mut scheduled);
     emit::emission(out, facts, &numbers, &writers, &scheduled, count, block.live)
 }

@@ -1,8 +1,8 @@
 // "Combination": chains cut into packs and singles; and "Schedule": the order of these units.
 //
-// Units that wait stand in a table by their lowest statement number, five bytes each: the lanes,
-// NONE where there is none, and their count. `needs` has for each of them what it waits for: all
-// that its statements depend on.
+// Units stand in tables as words: a byte for each lane, NONE where there is none, and their count
+// above these. Those that wait stand by their lowest statement number, and `needs` has for each of
+// them what it waits for: all that its statements depend on.
 
 // "A unit is a pack or a single statement": its statements in the order of their lanes.
 pub struct Unit {
@@ -10,24 +10,21 @@ pub struct Unit {
     pub count: u8,
 }
 
-pub fn unit_at(units: &[u8], at: usize) -> Unit {
-    let i = at * 5;
-    let lanes = [
-        rows::byte_at(units, i),
-        rows::byte_at(units, i + 1),
-        rows::byte_at(units, i + 2),
-        rows::byte_at(units, i + 3),
-    ];
-    Unit { lanes, count: rows::byte_at(units, i + 4) }
+fn low(word: u64) -> u8 {
+    (word % 256) as u8
 }
 
-pub fn set_unit(units: &mut [u8], at: usize, unit: Unit) {
-    let i = at * 5;
-    rows::set_byte(units, i, unit.lanes[0]);
-    rows::set_byte(units, i + 1, unit.lanes[1]);
-    rows::set_byte(units, i + 2, unit.lanes[2]);
-    rows::set_byte(units, i + 3, unit.lanes[3]);
-    rows::set_byte(units, i + 4, unit.count);
+pub fn unit_at(units: &[u64], at: usize) -> Unit {
+    let word = rows::word_at(units, at);
+    let lanes = [low(word), low(word / 256), low(word / 65536), low(word / 16777216)];
+    Unit { lanes, count: low(word / 4294967296) }
+}
+
+pub fn set_unit(units: &mut [u64], at: usize, unit: Unit) {
+    let first = unit.lanes[0] as u64 + 256 * unit.lanes[1] as u64;
+    let second = unit.lanes[2] as u64 + 256 * unit.lanes[3] as u64;
+    let word = first + 65536 * second + 4294967296 * unit.count as u64;
+    rows::set_word(units, at, word);
 }
 
 fn single(s: usize) -> Unit {
@@ -108,7 +105,7 @@ fn needed(direct: &[u64], unit: Unit) -> u64 {
 }
 
 // The unit waits from now on.
-fn wait(direct: &[u64], units: &mut [u8], needs: &mut [u64], unit: Unit) -> u64 {
+fn wait(direct: &[u64], units: &mut [u64], needs: &mut [u64], unit: Unit) -> u64 {
     let low = lowest(unit);
     set_unit(units, low, unit);
     rows::set_word(needs, low, needed(direct, unit));
@@ -116,7 +113,7 @@ fn wait(direct: &[u64], units: &mut [u8], needs: &mut [u64], unit: Unit) -> u64 
 }
 
 // "A chain is cut from its left end." Back comes the set of all units so far, by lowest number.
-fn cut(n: usize, reached: &[u64], direct: &[u64], next: &[u8], start: usize, units: &mut [u8], needs: &mut [u64], before: u64) -> u64 {
+fn cut(n: usize, reached: &[u64], direct: &[u64], next: &[u8], start: usize, units: &mut [u64], needs: &mut [u64], before: u64) -> u64 {
     let mut waiting = before;
     let mut at = start;
     let mut i: usize = 0;
@@ -133,14 +130,14 @@ fn cut(n: usize, reached: &[u64], direct: &[u64], next: &[u8], start: usize, uni
 }
 
 // A longest chain begins at a statement that is right in no pair.
-fn cut_from(n: usize, reached: &[u64], direct: &[u64], next: &[u8], rights: u64, s: usize, units: &mut [u8], needs: &mut [u64], before: u64) -> u64 {
+fn cut_from(n: usize, reached: &[u64], direct: &[u64], next: &[u8], rights: u64, s: usize, units: &mut [u64], needs: &mut [u64], before: u64) -> u64 {
     if rows::has(rights, s) {
         return before;
     }
     cut(n, reached, direct, next, s, units, needs, before)
 }
 
-pub fn combine(n: usize, reached: [u64; 64], direct: &[u64], next: &[u8], rights: u64, units: &mut [u8], needs: &mut [u64]) -> u64 {
+pub fn combine(n: usize, reached: [u64; 64], direct: &[u64], next: &[u8], rights: u64, units: &mut [u64], needs: &mut [u64]) -> u64 {
     let mut waiting: u64 = 0;
     let mut s: usize = 0;
     while s < n {
@@ -176,7 +173,7 @@ fn lowest_ready(needs: &[u64], waiting: u64, scheduled: u64) -> usize {
     rows::NONE
 }
 
-fn lowest_pack(units: &[u8], waiting: u64) -> usize {
+fn lowest_pack(units: &[u64], waiting: u64) -> usize {
     let mut rest = waiting;
     while rest != 0 {
         let at = rows::first(rest);
@@ -197,7 +194,7 @@ fn without(set: u64, i: usize) -> u64 {
     if rows::has(set, i) { set ^ rows::only(i) } else { set }
 }
 
-fn take(units: &[u8], order: &mut [u8], progress: Progress, at: usize) -> Progress {
+fn take(units: &[u64], order: &mut [u64], progress: Progress, at: usize) -> Progress {
     let unit = unit_at(units, at);
     set_unit(order, progress.count, unit);
     Progress {
@@ -207,14 +204,14 @@ fn take(units: &[u8], order: &mut [u8], progress: Progress, at: usize) -> Progre
     }
 }
 
-fn wait_single(direct: &[u64], units: &mut [u8], needs: &mut [u64], lane: u8) -> u64 {
+fn wait_single(direct: &[u64], units: &mut [u64], needs: &mut [u64], lane: u8) -> u64 {
     if lane < 64 {
         return wait(direct, units, needs, single(lane as usize));
     }
     0
 }
 
-fn dissolve(direct: &[u64], units: &mut [u8], needs: &mut [u64], progress: Progress, at: usize) -> Progress {
+fn dissolve(direct: &[u64], units: &mut [u64], needs: &mut [u64], progress: Progress, at: usize) -> Progress {
     let unit = unit_at(units, at);
     let first = wait_single(direct, units, needs, unit.lanes[0]);
     let second = wait_single(direct, units, needs, unit.lanes[1]);
@@ -229,7 +226,7 @@ fn dissolve(direct: &[u64], units: &mut [u8], needs: &mut [u64], progress: Progr
 
 // "Take the ready unit with the lowest statement number. If none is ready, dissolve the waiting pack
 // with the lowest statement number into singles."
-fn step(direct: &[u64], units: &mut [u8], needs: &mut [u64], order: &mut [u8], progress: Progress) -> Progress {
+fn step(direct: &[u64], units: &mut [u64], needs: &mut [u64], order: &mut [u64], progress: Progress) -> Progress {
     let ready = lowest_ready(needs, progress.waiting, progress.scheduled);
     if ready < rows::NONE {
         return take(units, order, progress, ready);
@@ -242,7 +239,7 @@ fn step(direct: &[u64], units: &mut [u8], needs: &mut [u64], order: &mut [u8], p
 }
 
 // The scheduled units stand in `order`, and back comes how many they are.
-pub fn schedule(n: usize, direct: &[u64], units: &mut [u8], needs: &mut [u64], waiting: u64, order: &mut [u8]) -> usize {
+pub fn schedule(n: usize, direct: &[u64], units: &mut [u64], needs: &mut [u64], waiting: u64, order: &mut [u64]) -> usize {
     let mut progress = Progress { waiting, scheduled: 0, count: 0 };
     let mut i: usize = 0;
     while i < n + n {
