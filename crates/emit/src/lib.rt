@@ -1,9 +1,9 @@
 // "Emission": the instructions of each unit, the registers and what they hold, and the variables
 // that stay in lanes.
 //
-// Registers stand in columns of 96: four lanes by code, 0 where there is none, and the statements
-// still to come that end the register by writing one of its places. `homes` has for each variable,
-// by half its code, one more than four times its register plus its lane, or 0 where it is in memory.
+// Registers stand in a table in columns of 96: four lanes, their count, and what ends the register.
+// `homes` has for each variable, by half its code, one more than four times its register plus its
+// lane, or 0 where it is in memory.
 
 use encode::Written;
 use units::Unit;
@@ -18,22 +18,18 @@ pub struct Emitted {
     pub done: u64,
 }
 
-// "A register holds the tuple it was fetched from, or for O the destination tuple; it is current
-// until a statement writes one of those places."
-pub struct Register {
-    pub lanes: [u64; 4],
-    pub count: u8,
-    pub current: bool,
-}
-
-// The operands of a unit at one position, or its destinations, by code.
+// The operands of a unit at one position, or its destinations, by code; 0 where there is no lane.
 pub struct Tuple {
     pub lanes: [u64; 4],
     pub count: u8,
 }
 
-fn with_written(e: Emitted, written: Written) -> Emitted {
-    Emitted { written, registers: e.registers, done: e.done }
+// "A register holds the tuple it was fetched from, or for O the destination tuple; it is current
+// until a statement writes one of those places": `ends` are the statements still to come that do.
+pub struct Register {
+    pub lanes: [u64; 4],
+    pub count: u8,
+    pub ends: u64,
 }
 
 // Variables in lanes.
@@ -76,39 +72,46 @@ fn extract_each(out: &mut [u8], homes: &mut [u16], w: Written, tuple: Tuple) -> 
 
 // Registers.
 
-fn register_at(registers: &[u64], r: usize, done: u64) -> Register {
+fn register_at(registers: &[u64], r: usize) -> Register {
     let lanes = [
         rows::word_at(registers, r),
         rows::word_at(registers, r + 96),
         rows::word_at(registers, r + 192),
         rows::word_at(registers, r + 288),
     ];
-    let count = if lanes[2] == 0 { 2 } else { 4 };
+    let count = low(rows::word_at(registers, r + 384));
     Register {
         lanes,
         count,
-        current: rows::word_at(registers, r + 384) & done == 0,
+        ends: rows::word_at(registers, r + 480),
     }
 }
 
-// The tuple in a new register, with the statements that will end it.
-fn hold(registers: &mut [u64], r: usize, tuple: Tuple, ends: u64) {
-    rows::set_word(registers, r, tuple.lanes[0]);
-    rows::set_word(registers, r + 96, tuple.lanes[1]);
-    rows::set_word(registers, r + 192, tuple.lanes[2]);
-    rows::set_word(registers, r + 288, tuple.lanes[3]);
-    rows::set_word(registers, r + 384, ends);
+fn set_register(registers: &mut [u64], r: usize, register: Register) {
+    rows::set_word(registers, r, register.lanes[0]);
+    rows::set_word(registers, r + 96, register.lanes[1]);
+    rows::set_word(registers, r + 192, register.lanes[2]);
+    rows::set_word(registers, r + 288, register.lanes[3]);
+    rows::set_word(registers, r + 384, register.count as u64);
+    rows::set_word(registers, r + 480, register.ends);
+}
+
+fn low(number: u64) -> u8 {
+    (number % 256) as u8
+}
+
+// No statement that ends it is done.
+fn is_current(register: Register, done: u64) -> bool {
+    register.ends & done == 0
 }
 
 // "exactly this tuple"
 fn holds(register: Register, tuple: Tuple) -> bool {
-    if register.current {
-        if register.count == tuple.count {
-            if register.lanes[0] == tuple.lanes[0] {
-                if register.lanes[1] == tuple.lanes[1] {
-                    if register.lanes[2] == tuple.lanes[2] {
-                        return register.lanes[3] == tuple.lanes[3];
-                    }
+    if register.count == tuple.count {
+        if register.lanes[0] == tuple.lanes[0] {
+            if register.lanes[1] == tuple.lanes[1] {
+                if register.lanes[2] == tuple.lanes[2] {
+                    return register.lanes[3] == tuple.lanes[3];
                 }
             }
         }
@@ -116,11 +119,17 @@ fn holds(register: Register, tuple: Tuple) -> bool {
     false
 }
 
-fn holder(registers: &[u64], e: Emitted, tuple: Tuple) -> usize {
+// "a current register that holds exactly this tuple"
+fn serves(register: Register, tuple: Tuple, done: u64) -> bool {
+    if is_current(register, done) { holds(register, tuple) } else { false }
+}
+
+fn holder(registers: &[u64], count: usize, done: u64, tuple: Tuple) -> usize {
     let mut r: usize = 0;
-    while r < e.registers {
+    while r < count {
+        // most registers differ in the first lane already
         if rows::word_at(registers, r) == tuple.lanes[0] {
-            if holds(register_at(registers, r, e.done), tuple) {
+            if serves(register_at(registers, r), tuple, done) {
                 return r;
             }
         }
@@ -135,6 +144,13 @@ fn endings(numbers: &[u8], writers: &[u64], tuple: Tuple, done: u64) -> u64 {
     let second = reach::naming(numbers, writers, tuple.lanes[2]) | reach::naming(numbers, writers, tuple.lanes[3]);
     let all = first | second;
     all ^ (all & done)
+}
+
+// A new register that holds the tuple.
+fn hold(registers: &mut [u64], r: usize, numbers: &[u8], writers: &[u64], tuple: Tuple, done: u64) {
+    let lanes = tuple.lanes;
+    let ends = endings(numbers, writers, tuple, done);
+    set_register(registers, r, Register { lanes, count: tuple.count, ends });
 }
 
 // Fetching.
@@ -187,14 +203,14 @@ pub struct Fetched {
 }
 
 fn fetch(out: &mut [u8], homes: &mut [u16], registers: &mut [u64], numbers: &[u8], writers: &[u64], e: Emitted, tuple: Tuple) -> Fetched {
-    let found = holder(registers, e, tuple);
+    let found = holder(registers, e.registers, e.done, tuple);
     if found < REGISTERS {
         return Fetched { emitted: e, register: found };
     }
     let r = e.registers;
     let before = e.written;
     let written = load(out, homes, before, r as u8, tuple);
-    hold(registers, r, tuple, endings(numbers, writers, tuple, e.done));
+    hold(registers, r, numbers, writers, tuple, e.done);
     let emitted = Emitted { written, registers: r + 1, done: e.done };
     Fetched { emitted, register: r }
 }
@@ -280,7 +296,7 @@ fn emit_pack(out: &mut [u8], homes: &mut [u16], registers: &mut [u64], facts: &[
     let tuple = tuple_at(facts, reach::DESTINATION, unit);
     let written = store(out, worked, r as u8, tuple);
     let done = both.done | members(unit);
-    hold(registers, r, tuple, endings(numbers, writers, tuple, done));
+    hold(registers, r, numbers, writers, tuple, done);
     land(homes, tuple, r);
     Emitted { written, registers: r + 1, done }
 }
@@ -317,7 +333,7 @@ fn extract_live(out: &mut [u8], homes: &mut [u16], from: Written, live: u8) -> W
 
 pub fn emission(out: &mut [u8], facts: &[u64], numbers: &[u8], writers: &[u64], order: &[u64], count: usize, live: u8) -> Written {
     let mut homes = [0u16; 257];
-    let mut registers = [0u64; 480];
+    let mut registers = [0u64; 576];
     let e = emit_units(out, &mut homes, &mut registers, facts, numbers, writers, order, count);
     let w = e.written;
     let all = extract_live(out, &mut homes, w, live);
