@@ -6,6 +6,7 @@ ghost use Prim.Native.Nat.{_<_, _-_, _^_};
 ghost use lib.ListN.{getD, set as replaced};
 ghost use lib.Count.{trailingZeros};
 ghost use Rattle.basics.specs.Sets.{only as onlyThis, join, has as holds};
+ghost use Rattle.rows.specs.Walk.{behindFirst, highest};
 
 // No statement has this number.
 pub const NONE: usize = 64;
@@ -38,12 +39,16 @@ pub fn first(set: u64) -> usize
     u64::trailing_zeros(set) as usize
 }
 
-pub fn behind_first(set: u64) -> u64 {
+pub fn behind_first(set: u64) -> u64
+    ensures { λ r. ⌜ r ≡ behindFirst set ⌝ }
+{
     if set == 0 { 0 } else { set & (set - 1) }
 }
 
 // The highest of a set, NONE where it is empty.
-pub fn last(set: u64) -> usize {
+pub fn last(set: u64) -> usize
+    ensures { λ r. ⌜ r ≡ highest set ⌝ }
+{
     if set == 0 {
         return NONE;
     }
