@@ -3,6 +3,14 @@
 // `next` has for each statement that is left in a pair the one that is right in it, else NONE;
 // `order` has the statements that are left in one, in order of admission.
 
+ghost use mathlib.Core.Path.{_≡_};
+ghost use mathlib.Core.Bool.{_&&_};
+ghost use mathlib.Core.List.{[]};
+ghost use Prim.Native.Nat.{_≤_, _<_};
+ghost use lib.Dec.{eqb, ltb};
+ghost use lib.ListN.{getD};
+ghost use Rattle.pairs.specs.Admission.{Tables, empty, admitTo, leadsTo, mayJoin, mayPair, firstAdmitted, neighboursOf, seedTables, seededTables};
+
 use meaning::Block;
 use meaning::Statement;
 
@@ -19,7 +27,9 @@ pub struct Pair {
 }
 
 // A chain of admitted pairs leads from one statement to another.
-fn leads(next: &[u8], from: usize, to: usize, count: usize) -> bool {
+fn leads(next: &[u8], from: usize, to: usize, count: usize) -> bool
+    ensures { λ r. ⌜ r ≡ leadsTo count (now (next .entry)) from to ⌝ }
+{
     let mut at = from;
     let mut i: usize = 0;
     while i < count {
@@ -37,7 +47,9 @@ fn leads(next: &[u8], from: usize, to: usize, count: usize) -> bool {
 
 // "s is not yet left in a pair; t is not yet right in one; no chain of admitted pairs leads from t
 // back to s"
-fn may_join(next: &[u8], admitted: Admitted, s: usize, t: usize) -> bool {
+fn may_join(next: &[u8], admitted: Admitted, s: usize, t: usize) -> bool
+    ensures { λ r. ⌜ r ≡ mayJoin (record { order = []; next = now (next .entry); size = admitted .count; rights = admitted .rights }) s t ⌝ }
+{
     if rows::number_at(next, s) != rows::NONE {
         return false;
     }
@@ -47,14 +59,18 @@ fn may_join(next: &[u8], admitted: Admitted, s: usize, t: usize) -> bool {
     if leads(next, t, s, admitted.count) { false } else { true }
 }
 
-pub fn may_be_admitted(facts: &[u64], reached: &[u64], next: &[u8], admitted: Admitted, s: usize, t: usize) -> bool {
+pub fn may_be_admitted(facts: &[u64], reached: &[u64], next: &[u8], admitted: Admitted, s: usize, t: usize) -> bool
+    ensures { λ r. ⌜ r ≡ mayPair (now (facts .entry)) (now (reached .entry)) (record { order = []; next = now (next .entry); size = admitted .count; rights = admitted .rights }) s t ⌝ }
+{
     if reach::fact(facts, reach::SORT, s) != reach::fact(facts, reach::SORT, t) {
         return false;
     }
     if reach::independent(reached, s, t) { may_join(next, admitted, s, t) } else { false }
 }
 
-pub fn is_admitted(next: &[u8], s: usize, t: usize) -> bool {
+pub fn is_admitted(next: &[u8], s: usize, t: usize) -> bool
+    ensures { λ r. ⌜ r ≡ ltb s 64 && (ltb t 64 && eqb (getD (now (next .entry)) s 64) t) ⌝ }
+{
     if s < rows::NONE {
         if t < rows::NONE {
             return rows::number_at(next, s) == t;
@@ -64,7 +80,11 @@ pub fn is_admitted(next: &[u8], s: usize, t: usize) -> bool {
 }
 
 // "added pairs at the end"
-pub fn admit(order: &mut [u8], next: &mut [u8], admitted: Admitted, s: usize, t: usize) -> Admitted {
+pub fn admit(order: &mut [u8], next: &mut [u8], admitted: Admitted, s: usize, t: usize) -> Admitted
+    requires { ⌜ (admitted .count < 64) × ((s < 64) × (t < 64)) ⌝ }
+    ensures { λ r. ⌜ record { order = now (order .exit); next = now (next .exit); size = r .count; rights = r .rights }
+        ≡ admitTo (record { left = s; right = t }) (record { order = now (order .entry); next = now (next .entry); size = admitted .count; rights = admitted .rights }) ⌝ }
+{
     rows::set_byte(order, admitted.count, s as u8);
     rows::set_byte(next, s, t as u8);
     Admitted {
@@ -77,7 +97,9 @@ pub fn admit(order: &mut [u8], next: &mut [u8], admitted: Admitted, s: usize, t:
 
 // The statements that have "in some position (destination, left, right)" a cell of the same array,
 // one above this statement's.
-fn neighbours(s: Statement, numbers: &[u8], writers: &[u64], lefts: &[u64], rights: &[u64]) -> u64 {
+fn neighbours(s: Statement, numbers: &[u8], writers: &[u64], lefts: &[u64], rights: &[u64]) -> u64
+    ensures { λ r. ⌜ r ≡ neighboursOf s (now (numbers .entry)) (now (writers .entry)) (now (lefts .entry)) (now (rights .entry)) ⌝ }
+{
     let destination = s.destination;
     let left = s.left;
     let right = s.right;
@@ -88,7 +110,9 @@ fn neighbours(s: Statement, numbers: &[u8], writers: &[u64], lefts: &[u64], righ
 }
 
 // Once (s, t) is admitted s is left in a pair, so only the first t can be.
-fn first_admitted(facts: &[u64], reached: &[u64], next: &[u8], admitted: Admitted, s: usize, candidates: u64) -> usize {
+fn first_admitted(facts: &[u64], reached: &[u64], next: &[u8], admitted: Admitted, s: usize, candidates: u64) -> usize
+    ensures { λ r. ⌜ r ≡ firstAdmitted (now (facts .entry)) (now (reached .entry)) (record { order = []; next = now (next .entry); size = admitted .count; rights = admitted .rights }) s candidates ⌝ }
+{
     let mut rest = candidates;
     while rest != 0 {
         let t = rows::first(rest);
@@ -100,7 +124,11 @@ fn first_admitted(facts: &[u64], reached: &[u64], next: &[u8], admitted: Admitte
     rows::NONE
 }
 
-fn seed_one(facts: &[u64], reached: &[u64], order: &mut [u8], next: &mut [u8], admitted: Admitted, s: usize, candidates: u64) -> Admitted {
+fn seed_one(facts: &[u64], reached: &[u64], order: &mut [u8], next: &mut [u8], admitted: Admitted, s: usize, candidates: u64) -> Admitted
+    requires { ⌜ (admitted .count < 64) × (s < 64) ⌝ }
+    ensures { λ r. ⌜ record { order = now (order .exit); next = now (next .exit); size = r .count; rights = r .rights }
+        ≡ seedTables (now (facts .entry)) (now (reached .entry)) s candidates (record { order = now (order .entry); next = now (next .entry); size = admitted .count; rights = admitted .rights }) ⌝ }
+{
     let t = first_admitted(facts, reached, next, admitted, s, candidates);
     if t == rows::NONE {
         return admitted;
@@ -108,7 +136,11 @@ fn seed_one(facts: &[u64], reached: &[u64], order: &mut [u8], next: &mut [u8], a
     admit(order, next, admitted, s, t)
 }
 
-pub fn seed(block: Block, n: usize, facts: &[u64], reached: [u64; 64], numbers: &[u8], writers: &[u64], lefts: &[u64], rights: &[u64], order: &mut [u8], next: &mut [u8]) -> Admitted {
+pub fn seed(block: Block, n: usize, facts: &[u64], reached: [u64; 64], numbers: &[u8], writers: &[u64], lefts: &[u64], rights: &[u64], order: &mut [u8], next: &mut [u8]) -> Admitted
+    requires { ⌜ n ≤ 64 ⌝ }
+    ensures { λ r. ⌜ record { order = now (order .exit); next = now (next .exit); size = r .count; rights = r .rights }
+        ≡ seededTables (block .statements) n (now (facts .entry)) reached (now (numbers .entry)) (now (writers .entry)) (now (lefts .entry)) (now (rights .entry)) ⌝ }
+{
     let mut admitted = Admitted { count: 0, rights: 0 };
     let mut i: usize = 0;
     while i < n {
