@@ -4,7 +4,6 @@ ghost use mathlib.Core.Path.{_≡_};
 ghost use mathlib.Core.List.{_++_};
 ghost use Prim.Native.Nat.{_≤_};
 ghost use lib.ListN.{length, take, drop};
-
 use encode::Written;
 use meaning::Block;
 
@@ -17,7 +16,12 @@ pub struct Made {
 }
 
 fn refused(status: u8, size: usize) -> Made {
-    Made { status, size, block_price: 0, list_price: 0 }
+    Made {
+        status,
+        size,
+        block_price: 0,
+        list_price: 0,
+    }
 }
 
 // "The price of a block is the sum of its statements' S prices."
@@ -25,7 +29,7 @@ fn block_price(facts: &[u64], n: usize) -> u64 {
     let mut price: u64 = 0;
     let mut i: usize = 0;
     while i < n {
-        price += reach::fact(facts, reach::PRICE, i);
+        price += facts::fact(facts, facts::PRICE, i);
         i += 1;
     }
     price
@@ -36,7 +40,7 @@ fn write_plain(out: &mut [u8], facts: &[u64], n: usize) -> Written {
     let mut w = encode::nothing_written();
     let mut i: usize = 0;
     while i < n {
-        w = encode::write_s(out, w, i as u8, reach::fact(facts, reach::PRICE, i));
+        w = encode::write_s(out, w, i as u8, facts::fact(facts, facts::PRICE, i));
         i += 1;
     }
     encode::write_header(out, w);
@@ -63,17 +67,45 @@ fn copy_into(room: &mut [u8], out: &[u8], size: usize)
 }
 
 // The units of a block in scheduled order: seed, extend, combine, schedule.
-fn schedule_units(block: Block, n: usize, facts: &[u64], numbers: &[u8], writers: &[u64], lefts: &[u64], rights: &[u64], scheduled: &mut [u64]) -> usize {
+fn schedule_units(
+    block: Block,
+    n: usize,
+    facts: &[u64],
+    numbers: &[u8],
+    writers: &[u64],
+    lefts: &[u64],
+    rights: &[u64],
+    scheduled: &mut [u64],
+) -> usize {
     let direct = reach::dependences(block, n, numbers, writers, lefts, rights);
     let reached = reach::reachability(&direct, n);
     let mut order = [64u8; 64];
     let mut next = [64u8; 64];
     let mut waiting = [0u64; 64];
     let mut needs = [0u64; 64];
-    let seeded = pairs::seed(block, n, facts, reached, numbers, writers, lefts, rights, &mut order, &mut next);
+    let seeded = pairs::seed(
+        block,
+        n,
+        facts,
+        reached,
+        numbers,
+        writers,
+        lefts,
+        rights,
+        &mut order,
+        &mut next,
+    );
     let admitted = extend::extend(n, facts, reached, &mut order, &mut next, seeded);
-    let all = units::combine(n, reached, &direct, &next, admitted.rights, &mut waiting, &mut needs);
-    units::schedule(n, &direct, &mut waiting, &mut needs, all, scheduled)
+    let all = combine::combine(
+        n,
+        reached,
+        &direct,
+        &next,
+        admitted.rights,
+        &mut waiting,
+        &mut needs,
+    );
+    schedule::schedule(n, &direct, &mut waiting, &mut needs, all, scheduled)
 }
 
 // The bytes of the packed list.
@@ -82,14 +114,31 @@ fn write_packed(block: Block, n: usize, facts: &mut [u64], out: &mut [u8]) -> Wr
     let mut writers = [0u64; 193];
     let mut lefts = [0u64; 193];
     let mut rights = [0u64; 193];
-    let first = reach::name_places(facts, reach::DESTINATION, n, &mut numbers, &mut writers, 0);
-    let second = reach::name_places(facts, reach::LEFT, n, &mut numbers, &mut lefts, first);
-    reach::name_places(facts, reach::RIGHT, n, &mut numbers, &mut rights, second);
+    let first = facts::name_places(facts, facts::DESTINATION, n, &mut numbers, &mut writers, 0);
+    let second = facts::name_places(facts, facts::LEFT, n, &mut numbers, &mut lefts, first);
+    facts::name_places(facts, facts::RIGHT, n, &mut numbers, &mut rights, second);
     reach::fill_definitions(facts, n, &numbers, &writers);
     reach::fill_readers(facts, n);
     let mut scheduled = [0u64; 64];
-    let count = schedule_units(block, n, facts, &numbers, &writers, &lefts, &rights, &mut scheduled);
-    emit::emission(out, facts, &numbers, &writers, &scheduled, count, block.live)
+    let count = schedule_units(
+        block,
+        n,
+        facts,
+        &numbers,
+        &writers,
+        &lefts,
+        &rights,
+        &mut scheduled,
+    );
+    emit::emission(
+        out,
+        facts,
+        &numbers,
+        &writers,
+        &scheduled,
+        count,
+        block.live,
+    )
 }
 
 fn statement_count(count: u8) -> usize {
@@ -102,7 +151,7 @@ fn make(block: Block, room: &mut [u8]) -> Made {
     let n = statement_count(block.count);
     let mut facts = [0u64; 512];
     let mut out = [0u8; 2048];
-    reach::fill_facts(block, n, &mut facts);
+    facts::fill_facts(block, n, &mut facts);
     let price = block_price(&facts, n);
     let packed = write_packed(block, n, &mut facts, &mut out);
     let w = choose(&mut out, &facts, n, packed, price);
@@ -110,7 +159,12 @@ fn make(block: Block, room: &mut [u8]) -> Made {
         return refused(7, w.size);
     }
     copy_into(room, &out, w.size);
-    Made { status: 0, size: w.size, block_price: price, list_price: w.price }
+    Made {
+        status: 0,
+        size: w.size,
+        block_price: price,
+        list_price: w.price,
+    }
 }
 
 pub fn make_list(bytes: &[u8], room: &mut [u8]) -> Made {

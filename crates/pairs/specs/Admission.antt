@@ -12,9 +12,10 @@ use Rattle.meaning.specs.declared.Statement.{Statement}
 use Rattle.meaning.specs.Block.{statement}
 use Rattle.meaning.specs.Pairs.{Pair}
 use Rattle.rows.specs.Walk.{walk}
-use Rattle.reach.specs.Codes.{placeCode, operandCode}
-use Rattle.reach.specs.Facts.{factAt}
-use Rattle.reach.specs.Places.{naming}
+use Rattle.codes.specs.Codes.{placeCode, operandCode}
+use Rattle.facts.specs.Facts.{factAt}
+use Rattle.facts.specs.Places.{naming}
+use Rattle.reach.specs.Rows.{noPath}
 
 -- those that are left in a pair, in order of admission; for each of them the one that is right in it, else 64; how many pairs; all that are right in one
 pub record Tables : Type 0 where
@@ -22,6 +23,9 @@ pub record Tables : Type 0 where
   pub next : List ℕ
   pub size : ℕ
   pub rights : ℕ
+
+abbrev pub tables : List ℕ → List ℕ → ℕ → ℕ → Tables
+tables order next size rights = record { order = order; next = next; size = size; rights = rights }
 
 abbrev pub empty : Tables
 empty = record { order = replicate 64 64; next = replicate 64 64; size = 0; rights = nobody }
@@ -50,10 +54,6 @@ leadsTo (suc n) next from to =
 abbrev pub mayJoin : Tables → ℕ → ℕ → Bool
 mayJoin t s u = eqb (getD (t .next) s 64) 64 && (not (has (t .rights) u) && not (leadsTo (t .size) (t .next) u s))
 
--- no path joins the two, which differ
-abbrev pub noPath : List ℕ → ℕ → ℕ → Bool
-noPath reached s t = not (eqb s t) && (not (has (getD reached s 0) t) && not (has (getD reached t 0) s))
-
 -- "A pair (s, t) may be admitted if .."
 abbrev pub mayPair : List ℕ → List ℕ → Tables → ℕ → ℕ → Bool
 mayPair facts reached t s u = eqb (factAt facts 192 s) (factAt facts 192 u) && (noPath reached s u && mayJoin t s u)
@@ -74,6 +74,6 @@ seedTables facts reached s candidates t =
     let u = firstAdmitted facts reached t s candidates in
     pick (eqb u 64) t (admitTo (record { left = s; right = u }) t)
 
-unfoldable pub seededTables : List Statement → ℕ → List ℕ → List ℕ → List ℕ → List ℕ → List ℕ → List ℕ → Tables
-seededTables ss n facts reached numbers writers lefts rights =
-    count n 0 (λ s. seedTables facts reached s (neighboursOf (statement ss s) numbers writers lefts rights)) empty
+unfoldable pub seededTables : List Statement → ℕ → List ℕ → List ℕ → List ℕ → List ℕ → List ℕ → List ℕ → Tables → Tables
+seededTables ss n facts reached numbers writers lefts rights t =
+    count n 0 (λ s. seedTables facts reached s (neighboursOf (statement ss s) numbers writers lefts rights)) t

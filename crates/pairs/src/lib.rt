@@ -9,8 +9,8 @@ ghost use mathlib.Core.List.{[]};
 ghost use Prim.Native.Nat.{_≤_, _<_};
 ghost use lib.Dec.{eqb, ltb};
 ghost use lib.ListN.{getD};
-ghost use Rattle.pairs.specs.Admission.{Tables, empty, admitTo, leadsTo, mayJoin, mayPair, firstAdmitted, neighboursOf, seedTables, seededTables};
-
+ghost use Rattle.meaning.specs.Pairs.{pair};
+ghost use Rattle.pairs.specs.Admission.{tables, admitTo, leadsTo, mayJoin, mayPair, firstAdmitted, neighboursOf, seedTables, seededTables};
 use meaning::Block;
 use meaning::Statement;
 
@@ -48,7 +48,7 @@ fn leads(next: &[u8], from: usize, to: usize, count: usize) -> bool
 // "s is not yet left in a pair; t is not yet right in one; no chain of admitted pairs leads from t
 // back to s"
 fn may_join(next: &[u8], admitted: Admitted, s: usize, t: usize) -> bool
-    ensures { λ r. ⌜ r ≡ mayJoin (record { order = []; next = now (next .entry); size = admitted .count; rights = admitted .rights }) s t ⌝ }
+    ensures { λ r. ⌜ r ≡ mayJoin (tables [] (now (next .entry)) (admitted .count) (admitted .rights)) s t ⌝ }
 {
     if rows::number_at(next, s) != rows::NONE {
         return false;
@@ -56,16 +56,31 @@ fn may_join(next: &[u8], admitted: Admitted, s: usize, t: usize) -> bool
     if rows::has(admitted.rights, t) {
         return false;
     }
-    if leads(next, t, s, admitted.count) { false } else { true }
+    if leads(next, t, s, admitted.count) {
+        false
+    } else {
+        true
+    }
 }
 
-pub fn may_be_admitted(facts: &[u64], reached: &[u64], next: &[u8], admitted: Admitted, s: usize, t: usize) -> bool
-    ensures { λ r. ⌜ r ≡ mayPair (now (facts .entry)) (now (reached .entry)) (record { order = []; next = now (next .entry); size = admitted .count; rights = admitted .rights }) s t ⌝ }
+pub fn may_be_admitted(
+    facts: &[u64],
+    reached: &[u64],
+    next: &[u8],
+    admitted: Admitted,
+    s: usize,
+    t: usize,
+) -> bool
+    ensures { λ r. ⌜ r ≡ mayPair (now (facts .entry)) (now (reached .entry)) (tables [] (now (next .entry)) (admitted .count) (admitted .rights)) s t ⌝ }
 {
-    if reach::fact(facts, reach::SORT, s) != reach::fact(facts, reach::SORT, t) {
+    if facts::fact(facts, facts::SORT, s) != facts::fact(facts, facts::SORT, t) {
         return false;
     }
-    if reach::independent(reached, s, t) { may_join(next, admitted, s, t) } else { false }
+    if reach::independent(reached, s, t) {
+        may_join(next, admitted, s, t)
+    } else {
+        false
+    }
 }
 
 pub fn is_admitted(next: &[u8], s: usize, t: usize) -> bool
@@ -82,8 +97,8 @@ pub fn is_admitted(next: &[u8], s: usize, t: usize) -> bool
 // "added pairs at the end"
 pub fn admit(order: &mut [u8], next: &mut [u8], admitted: Admitted, s: usize, t: usize) -> Admitted
     requires { ⌜ (admitted .count < 64) × ((s < 64) × (t < 64)) ⌝ }
-    ensures { λ r. ⌜ record { order = now (order .exit); next = now (next .exit); size = r .count; rights = r .rights }
-        ≡ admitTo (record { left = s; right = t }) (record { order = now (order .entry); next = now (next .entry); size = admitted .count; rights = admitted .rights }) ⌝ }
+    ensures { λ r. ⌜ tables (now (order .exit)) (now (next .exit)) (r .count) (r .rights)
+        ≡ admitTo (pair s t) (tables (now (order .entry)) (now (next .entry)) (admitted .count) (admitted .rights)) ⌝ }
 {
     rows::set_byte(order, admitted.count, s as u8);
     rows::set_byte(next, s, t as u8);
@@ -93,8 +108,6 @@ pub fn admit(order: &mut [u8], next: &mut [u8], admitted: Admitted, s: usize, t:
     }
 }
 
-// Seeding.
-
 // The statements that have "in some position (destination, left, right)" a cell of the same array,
 // one above this statement's.
 fn neighbours(s: Statement, numbers: &[u8], writers: &[u64], lefts: &[u64], rights: &[u64]) -> u64
@@ -103,15 +116,22 @@ fn neighbours(s: Statement, numbers: &[u8], writers: &[u64], lefts: &[u64], righ
     let destination = s.destination;
     let left = s.left;
     let right = s.right;
-    let d = reach::naming(numbers, writers, reach::place_code(destination) + 1);
-    let l = reach::naming(numbers, lefts, reach::operand_code(left) + 1);
-    let r = reach::naming(numbers, rights, reach::operand_code(right) + 1);
+    let d = facts::naming(numbers, writers, codes::place_code(destination) + 1);
+    let l = facts::naming(numbers, lefts, codes::operand_code(left) + 1);
+    let r = facts::naming(numbers, rights, codes::operand_code(right) + 1);
     d | l | r
 }
 
 // Once (s, t) is admitted s is left in a pair, so only the first t can be.
-fn first_admitted(facts: &[u64], reached: &[u64], next: &[u8], admitted: Admitted, s: usize, candidates: u64) -> usize
-    ensures { λ r. ⌜ r ≡ firstAdmitted (now (facts .entry)) (now (reached .entry)) (record { order = []; next = now (next .entry); size = admitted .count; rights = admitted .rights }) s candidates ⌝ }
+fn first_admitted(
+    facts: &[u64],
+    reached: &[u64],
+    next: &[u8],
+    admitted: Admitted,
+    s: usize,
+    candidates: u64,
+) -> usize
+    ensures { λ r. ⌜ r ≡ firstAdmitted (now (facts .entry)) (now (reached .entry)) (tables [] (now (next .entry)) (admitted .count) (admitted .rights)) s candidates ⌝ }
 {
     let mut rest = candidates;
     while rest != 0 {
@@ -124,10 +144,18 @@ fn first_admitted(facts: &[u64], reached: &[u64], next: &[u8], admitted: Admitte
     rows::NONE
 }
 
-fn seed_one(facts: &[u64], reached: &[u64], order: &mut [u8], next: &mut [u8], admitted: Admitted, s: usize, candidates: u64) -> Admitted
+fn seed_one(
+    facts: &[u64],
+    reached: &[u64],
+    order: &mut [u8],
+    next: &mut [u8],
+    admitted: Admitted,
+    s: usize,
+    candidates: u64,
+) -> Admitted
     requires { ⌜ (admitted .count < 64) × (s < 64) ⌝ }
-    ensures { λ r. ⌜ record { order = now (order .exit); next = now (next .exit); size = r .count; rights = r .rights }
-        ≡ seedTables (now (facts .entry)) (now (reached .entry)) s candidates (record { order = now (order .entry); next = now (next .entry); size = admitted .count; rights = admitted .rights }) ⌝ }
+    ensures { λ r. ⌜ tables (now (order .exit)) (now (next .exit)) (r .count) (r .rights)
+        ≡ seedTables (now (facts .entry)) (now (reached .entry)) s candidates (tables (now (order .entry)) (now (next .entry)) (admitted .count) (admitted .rights)) ⌝ }
 {
     let t = first_admitted(facts, reached, next, admitted, s, candidates);
     if t == rows::NONE {
@@ -136,12 +164,27 @@ fn seed_one(facts: &[u64], reached: &[u64], order: &mut [u8], next: &mut [u8], a
     admit(order, next, admitted, s, t)
 }
 
-pub fn seed(block: Block, n: usize, facts: &[u64], reached: [u64; 64], numbers: &[u8], writers: &[u64], lefts: &[u64], rights: &[u64], order: &mut [u8], next: &mut [u8]) -> Admitted
+pub fn seed(
+    block: Block,
+    n: usize,
+    facts: &[u64],
+    reached: [u64; 64],
+    numbers: &[u8],
+    writers: &[u64],
+    lefts: &[u64],
+    rights: &[u64],
+    order: &mut [u8],
+    next: &mut [u8],
+) -> Admitted
     requires { ⌜ n ≤ 64 ⌝ }
-    ensures { λ r. ⌜ record { order = now (order .exit); next = now (next .exit); size = r .count; rights = r .rights }
-        ≡ seededTables (block .statements) n (now (facts .entry)) reached (now (numbers .entry)) (now (writers .entry)) (now (lefts .entry)) (now (rights .entry)) ⌝ }
+    ensures { λ r. ⌜ tables (now (order .exit)) (now (next .exit)) (r .count) (r .rights)
+        ≡ seededTables (block .statements) n (now (facts .entry)) reached (now (numbers .entry)) (now (writers .entry)) (now (lefts .entry)) (now (rights .entry))
+        (tables (now (order .entry)) (now (next .entry)) 0 0) ⌝ }
 {
-    let mut admitted = Admitted { count: 0, rights: 0 };
+    let mut admitted = Admitted {
+        count: 0,
+        rights: 0,
+    };
     let mut i: usize = 0;
     while i < n {
         let s = block.statements[i];

@@ -2,7 +2,7 @@
 // written at any index.
 
 ghost use mathlib.Core.Path.{_≡_};
-ghost use Prim.Native.Nat.{_<_, _-_, _^_};
+ghost use Prim.Native.Nat.{_<_, _-_, _^_, _%_};
 ghost use lib.ListN.{getD, set as replaced};
 ghost use lib.Count.{trailingZeros};
 ghost use Rattle.basics.specs.Sets.{only as onlyThis, join, has as holds};
@@ -106,4 +106,11 @@ pub fn number_at(table: &[u8], i: usize) -> usize
         return table[i] as usize;
     }
     NONE
+}
+
+// The lowest byte of a number.
+pub fn low_byte(number: u64) -> u8
+    ensures { λ r. ⌜ r ≡ number % 256 ⌝ }
+{
+    (number % 256) as u8
 }

@@ -1,42 +1,19 @@
--- Places by number, and for each place the statements that name it: what depends on what, and last definitions, read from these tables.
+-- What each statement depends on, all that paths lead to, last definitions and readers, read from the tables of places.
 use Prim.Native.Nat.{ℕ, _+_, _-_, _^_}
-use mathlib.Core.Bool.{Bool, _||_}
 use mathlib.Core.List.{List}
-use lib.Dec.{eqb, leb}
-use lib.ListN.{length, getD, set, replicate}
+use mathlib.Core.Bool.{Bool, _&&_, not}
+use lib.Dec.{eqb, ltb}
+use lib.ListN.{getD, set, replicate}
 use lib.Bits.{bitAnd}
 use Rattle.basics.specs.Choice.{pick}
 use Rattle.basics.specs.Counting.{count}
-use Rattle.basics.specs.Sets.{only, join}
-use Rattle.rows.specs.Walk.{walk, highest}
+use Rattle.basics.specs.Sets.{only, join, has}
 use Rattle.meaning.specs.declared.Statement.{Statement}
 use Rattle.meaning.specs.Block.{statement}
-use Rattle.reach.specs.Codes.{placeCode, operandCode, isVariableCode}
-use Rattle.reach.specs.Facts.{factAt}
-
--- the numbers by code, the statements that name each place by number, and how many numbers are given
-pub record Named : Type 0 where
-  pub numbers : List ℕ
-  pub named : List ℕ
-  pub given : ℕ
-
-abbrev pub joinAt : List ℕ → ℕ → ℕ → List ℕ
-joinAt table i s = set table i (join (getD table i 0) s)
-
--- statement i names the place: a number for it if it has none yet
-abbrev pub namePlace : ℕ → ℕ → Named → Named
-namePlace code i t =
-    pick (eqb code 0 || leb (length (t .numbers)) code) t
-    (pick (eqb (getD (t .numbers) code 0) 0)
-    (record { numbers = set (t .numbers) code (t .given + 1); named = joinAt (t .named) (t .given + 1) (only i); given = t .given + 1 })
-    (record { numbers = t .numbers; named = joinAt (t .named) (getD (t .numbers) code 0) (only i); given = t .given }))
-
-unfoldable pub namePlaces : List ℕ → ℕ → ℕ → Named → Named
-namePlaces facts column n t = count n 0 (λ i. namePlace (factAt facts column i) i) t
-
--- the statements that name what the code stands for
-abbrev pub naming : List ℕ → List ℕ → ℕ → ℕ
-naming numbers named code = getD named (getD numbers code 0) 0
+use Rattle.rows.specs.Walk.{walk, highest}
+use Rattle.codes.specs.Codes.{placeCode, operandCode, isVariableCode}
+use Rattle.facts.specs.Facts.{factAt}
+use Rattle.facts.specs.Places.{naming}
 
 -- what a statement depends on: of those before it, the ones that write what it reads, read what it writes, or write the same place
 abbrev pub directRow : Statement → ℕ → List ℕ → List ℕ → List ℕ → List ℕ → ℕ
@@ -58,6 +35,10 @@ reachedFrom direct reached = walk 64 direct (λ e row. join row (getD reached e 
 unfoldable pub reachedRows : List ℕ → ℕ → List ℕ
 reachedRows direct n = count n 0 (λ i reached. set reached i (reachedFrom (getD direct i 0) reached)) (replicate 64 0)
 
+-- no path joins the two, which differ
+abbrev pub noPath : List ℕ → ℕ → ℕ → Bool
+noPath reached s t = not (eqb s t) && (not (has (getD reached s 0) t) && not (has (getD reached t 0) s))
+
 -- the last definition before the reader, 64 where there is none
 abbrev pub lastDefinition : ℕ → ℕ → List ℕ → List ℕ → ℕ
 lastDefinition code reader numbers writers =
@@ -70,3 +51,16 @@ defineOperands numbers writers i facts =
 
 unfoldable pub withDefinitions : ℕ → List ℕ → List ℕ → List ℕ → List ℕ
 withDefinitions n numbers writers facts = count n 0 (defineOperands numbers writers) facts
+
+-- the readers of each statement's result, from the columns of definitions
+abbrev pub addReader : ℕ → ℕ → List ℕ → List ℕ
+addReader defined reader facts =
+    pick (ltb defined 64) (set facts (448 + defined) (join (getD facts (448 + defined) 0) (only reader))) facts
+
+abbrev pub addReaders : ℕ → List ℕ → List ℕ
+addReaders i facts =
+    let after = addReader (factAt facts 320 i) i facts in
+    addReader (factAt after 384 i) i after
+
+unfoldable pub withReaders : ℕ → List ℕ → List ℕ
+withReaders n facts = count n 0 addReaders facts

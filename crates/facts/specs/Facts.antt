@@ -5,10 +5,9 @@ use lib.Dec.{ltb}
 use lib.ListN.{getD, set}
 use Rattle.basics.specs.Choice.{pick}
 use Rattle.basics.specs.Counting.{count}
-use Rattle.basics.specs.Sets.{only, join}
 use Rattle.meaning.specs.declared.Statement.{Statement}
 use Rattle.meaning.specs.Block.{statement}
-use Rattle.reach.specs.Codes.{placeCode, operandCode, cellCode}
+use Rattle.codes.specs.Codes.{placeCode, operandCode, cellCode}
 
 abbrev pub factAt : List ℕ → ℕ → ℕ → ℕ
 factAt facts column s = pick (ltb s 64) (getD facts (column + s) 0) 0
@@ -24,16 +23,3 @@ stateFacts i s facts =
 
 unfoldable pub statedFacts : List Statement → ℕ → List ℕ → List ℕ
 statedFacts ss n facts = count n 0 (λ i. stateFacts i (statement ss i)) facts
-
--- the readers of each statement's result, from the columns of definitions
-abbrev pub addReader : ℕ → ℕ → List ℕ → List ℕ
-addReader defined reader facts =
-    pick (ltb defined 64) (set facts (448 + defined) (join (getD facts (448 + defined) 0) (only reader))) facts
-
-abbrev pub addReaders : ℕ → List ℕ → List ℕ
-addReaders i facts =
-    let after = addReader (factAt facts 320 i) i facts in
-    addReader (factAt after 384 i) i after
-
-unfoldable pub withReaders : ℕ → List ℕ → List ℕ
-withReaders n facts = count n 0 addReaders facts
