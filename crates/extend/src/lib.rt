@@ -1,6 +1,13 @@
 // "Extension": from admitted pairs to those that define what they read, and to those that read what
 // they define.
 
+ghost use mathlib.Core.Path.{_≡_};
+ghost use mathlib.Core.List.{[]};
+ghost use Prim.Native.Nat.{_≤_, _<_};
+ghost use Rattle.meaning.specs.Pairs.{pair};
+ghost use Rattle.pairs.specs.Admission.{tables};
+ghost use Rattle.estimate.specs.Costs.{priced};
+ghost use Rattle.extend.specs.Visits.{found, admitPaying, admitDefinitions, betterOf, bestOfPartners, bestOf, admitReaders, visitTables, visitTablesFrom};
 use pairs::Admitted;
 use pairs::Pair;
 
@@ -12,7 +19,11 @@ fn admit_if_pays(
     next: &mut [u8],
     admitted: Admitted,
     p: Pair,
-) -> Admitted {
+) -> Admitted
+    requires { ⌜ (admitted .count < 64) × (priced (now facts)) ⌝ }
+    ensures { λ r. ⌜ tables (now (order .exit)) (now (next .exit)) (r .count) (r .rights)
+        ≡ admitPaying (now (facts .entry)) (now (reached .entry)) (pair (p .left) (p .right)) (tables (now (order .entry)) (now (next .entry)) (admitted .count) (admitted .rights)) ⌝ }
+{
     let s = p.left;
     let t = p.right;
     if pairs::may_be_admitted(facts, reached, next, admitted, s, t) {
@@ -33,7 +44,11 @@ fn use_to_definition(
     admitted: Admitted,
     definition: usize,
     p: Pair,
-) -> Admitted {
+) -> Admitted
+    requires { ⌜ (admitted .count < 64) × ((definition ≤ 448) × (priced (now facts))) ⌝ }
+    ensures { λ r. ⌜ tables (now (order .exit)) (now (next .exit)) (r .count) (r .rights)
+        ≡ admitDefinitions (now (facts .entry)) (now (reached .entry)) definition (pair (p .left) (p .right)) (tables (now (order .entry)) (now (next .entry)) (admitted .count) (admitted .rights)) ⌝ }
+{
     let left = facts::fact(facts, definition, p.left) as usize;
     let right = facts::fact(facts, definition, p.right) as usize;
     if left < rows::NONE {
@@ -59,7 +74,11 @@ fn better(
     admitted: Admitted,
     best: Best,
     p: Pair,
-) -> Best {
+) -> Best
+    requires { ⌜ priced (now facts) ⌝ }
+    ensures { λ r. ⌜ found (r .left) (r .right) (r .estimate)
+        ≡ betterOf (now (facts .entry)) (now (reached .entry)) (tables [] (now (next .entry)) (admitted .count) (admitted .rights)) (pair (p .left) (p .right)) (found (best .left) (best .right) (best .estimate)) ⌝ }
+{
     let left = p.left;
     let right = p.right;
     if pairs::may_be_admitted(facts, reached, next, admitted, left, right) {
@@ -91,11 +110,15 @@ fn best_with(
     reached: &[u64],
     next: &[u8],
     admitted: Admitted,
-    found: Best,
+    before: Best,
     t: usize,
     partners: u64,
-) -> Best {
-    let mut best = found;
+) -> Best
+    requires { ⌜ priced (now facts) ⌝ }
+    ensures { λ r. ⌜ found (r .left) (r .right) (r .estimate)
+        ≡ bestOfPartners (now (facts .entry)) (now (reached .entry)) (tables [] (now (next .entry)) (admitted .count) (admitted .rights)) t partners (found (before .left) (before .right) (before .estimate)) ⌝ }
+{
+    let mut best = before;
     let mut rest = partners;
     while rest != 0 {
         best = better(
@@ -115,7 +138,10 @@ fn best_with(
 }
 
 // "among all t reading s's result and t' reading its partner's result, t then t' ascending"
-fn best_readers(facts: &[u64], reached: &[u64], next: &[u8], admitted: Admitted, p: Pair) -> Best {
+fn best_readers(facts: &[u64], reached: &[u64], next: &[u8], admitted: Admitted, p: Pair) -> Best
+    requires { ⌜ priced (now facts) ⌝ }
+    ensures { λ r. ⌜ found (r .left) (r .right) (r .estimate) ≡ bestOf (now (facts .entry)) (now (reached .entry)) (tables [] (now (next .entry)) (admitted .count) (admitted .rights)) (pair (p .left) (p .right)) ⌝ }
+{
     let partners = facts::fact(facts, facts::READERS, p.right);
     let mut best = Best {
         left: rows::NONE,
@@ -146,7 +172,11 @@ fn definition_to_use(
     next: &mut [u8],
     admitted: Admitted,
     p: Pair,
-) -> Admitted {
+) -> Admitted
+    requires { ⌜ (admitted .count < 64) × (priced (now facts)) ⌝ }
+    ensures { λ r. ⌜ tables (now (order .exit)) (now (next .exit)) (r .count) (r .rights)
+        ≡ admitReaders (now (facts .entry)) (now (reached .entry)) (pair (p .left) (p .right)) (tables (now (order .entry)) (now (next .entry)) (admitted .count) (admitted .rights)) ⌝ }
+{
     let best = best_readers(facts, reached, next, admitted, p);
     if best.left == rows::NONE {
         return admitted;
@@ -163,7 +193,11 @@ fn visit(
     next: &mut [u8],
     admitted: Admitted,
     p: Pair,
-) -> Admitted {
+) -> Admitted
+    requires { ⌜ (admitted .count < 62) × (priced (now facts)) ⌝ }
+    ensures { λ r. ⌜ tables (now (order .exit)) (now (next .exit)) (r .count) (r .rights)
+        ≡ visitTables (now (facts .entry)) (now (reached .entry)) (pair (p .left) (p .right)) (tables (now (order .entry)) (now (next .entry)) (admitted .count) (admitted .rights)) ⌝ }
+{
     let first = use_to_definition(
         facts,
         reached,
@@ -193,7 +227,11 @@ pub fn extend(
     order: &mut [u8],
     next: &mut [u8],
     seeded: Admitted,
-) -> Admitted {
+) -> Admitted
+    requires { ⌜ (n ≤ 64) × (priced (now facts)) ⌝ }
+    ensures { λ r. ⌜ tables (now (order .exit)) (now (next .exit)) (r .count) (r .rights)
+        ≡ visitTablesFrom n (now (facts .entry)) reached 0 (tables (now (order .entry)) (now (next .entry)) (seeded .count) (seeded .rights)) ⌝ }
+{
     let mut admitted = seeded;
     let mut i: usize = 0;
     while i < n {

@@ -2,7 +2,7 @@
 use Prim.Native.Nat.{ℕ, zero, suc, _+_}
 use mathlib.Core.Bool.{Bool, true, false, _&&_, not}
 use mathlib.Core.List.{List}
-use lib.Dec.{eqb}
+use lib.Dec.{eqb, ltb}
 use lib.ListN.{getD, set, replicate}
 use Rattle.basics.specs.Choice.{pick}
 use Rattle.basics.specs.Counting.{count}
@@ -53,6 +53,10 @@ leadsTo (suc n) next from to =
 
 abbrev pub mayJoin : Tables → ℕ → ℕ → Bool
 mayJoin t s u = eqb (getD (t .next) s 64) 64 && (not (has (t .rights) u) && not (leadsTo (t .size) (t .next) u s))
+
+-- `isAdmitted`
+abbrev pub admittedIn : List ℕ → ℕ → ℕ → Bool
+admittedIn next s t = ltb s 64 && (ltb t 64 && eqb (getD next s 64) t)
 
 -- "A pair (s, t) may be admitted if .."
 abbrev pub mayPair : List ℕ → List ℕ → Tables → ℕ → ℕ → Bool

@@ -4,13 +4,10 @@
 // `order` has the statements that are left in one, in order of admission.
 
 ghost use mathlib.Core.Path.{_≡_};
-ghost use mathlib.Core.Bool.{_&&_};
 ghost use mathlib.Core.List.{[]};
 ghost use Prim.Native.Nat.{_≤_, _<_};
-ghost use lib.Dec.{eqb, ltb};
-ghost use lib.ListN.{getD};
 ghost use Rattle.meaning.specs.Pairs.{pair};
-ghost use Rattle.pairs.specs.Admission.{tables, admitTo, leadsTo, mayJoin, mayPair, firstAdmitted, neighboursOf, seedTables, seededTables};
+ghost use Rattle.pairs.specs.Admission.{tables, admittedIn, admitTo, leadsTo, mayJoin, mayPair, firstAdmitted, neighboursOf, seedTables, seededTables};
 use meaning::Block;
 use meaning::Statement;
 
@@ -84,7 +81,7 @@ pub fn may_be_admitted(
 }
 
 pub fn is_admitted(next: &[u8], s: usize, t: usize) -> bool
-    ensures { λ r. ⌜ r ≡ ltb s 64 && (ltb t 64 && eqb (getD (now (next .entry)) s 64) t) ⌝ }
+    ensures { λ r. ⌜ r ≡ admittedIn (now (next .entry)) s t ⌝ }
 {
     if s < rows::NONE {
         if t < rows::NONE {
