@@ -38,7 +38,57 @@ fn store(out: &mut [u8], w: Written, r: u8, tuple: Tuple) -> Written {
     store_lane(out, third, r, 3, tuple.lanes[3])
 }
 
-// "A pack fetches left, then right .. Then O. Then the destination".
+// "The statements of a pack have one operation", which the sort has above the kind of destination.
+fn operation_of(facts: &[u64], unit: Unit) -> u8 {
+    rows::low_byte(facts::fact(facts, facts::SORT, unit.lanes[0] as usize) / 2)
+}
+
+// "A pack fetches left, then right .. Then O." The register of O is the next one.
+fn operated(
+    out: &mut [u8],
+    homes: &mut [u16],
+    registers: &mut [u64],
+    facts: &[u64],
+    numbers: &[u8],
+    writers: &[u64],
+    e: Emitted,
+    unit: Unit,
+) -> Emitted {
+    let operation = operation_of(facts, unit);
+    let tuple = fetch::tuple_at(facts, facts::LEFT, unit);
+    let left = fetch::fetch(out, homes, registers, numbers, writers, e, tuple);
+    let after = left.emitted;
+    let other = fetch::tuple_at(facts, facts::RIGHT, unit);
+    let right = fetch::fetch_right(
+        out,
+        homes,
+        registers,
+        numbers,
+        writers,
+        after,
+        other,
+        operation,
+    );
+    let both = right.emitted;
+    let r = both.registers as u8;
+    let fetched = both.written;
+    let written = encode::write_o(
+        out,
+        fetched,
+        r,
+        operation,
+        unit.count,
+        left.register as u8,
+        right.register as u8,
+    );
+    Emitted {
+        written,
+        registers: both.registers,
+        done: both.done,
+    }
+}
+
+// "Then the destination."
 fn emit_pack(
     out: &mut [u8],
     homes: &mut [u16],
@@ -49,42 +99,12 @@ fn emit_pack(
     e: Emitted,
     unit: Unit,
 ) -> Emitted {
-    let operation = (facts::fact(facts, facts::SORT, unit.lanes[0] as usize) / 2 % 256) as u8;
-    let left = fetch::fetch(
-        out,
-        homes,
-        registers,
-        numbers,
-        writers,
-        e,
-        fetch::tuple_at(facts, facts::LEFT, unit),
-    );
-    let after = left.emitted;
-    let right = fetch::fetch_right(
-        out,
-        homes,
-        registers,
-        numbers,
-        writers,
-        after,
-        fetch::tuple_at(facts, facts::RIGHT, unit),
-        operation,
-    );
-    let both = right.emitted;
-    let r = both.registers;
-    let fetched = both.written;
-    let worked = encode::write_o(
-        out,
-        fetched,
-        r as u8,
-        operation,
-        unit.count,
-        left.register as u8,
-        right.register as u8,
-    );
+    let worked = operated(out, homes, registers, facts, numbers, writers, e, unit);
+    let r = worked.registers;
+    let before = worked.written;
     let tuple = fetch::tuple_at(facts, facts::DESTINATION, unit);
-    let written = store(out, worked, r as u8, tuple);
-    let done = both.done | units::members(unit);
+    let written = store(out, before, r as u8, tuple);
+    let done = worked.done | units::members(unit);
     registers::hold(registers, r, numbers, writers, tuple, done);
     lanes::land(homes, tuple, r);
     Emitted {
