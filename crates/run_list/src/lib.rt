@@ -1,0 +1,99 @@
+// The card's engine: a list run beside its block.
+
+ghost use mathlib.Core.Path.{_≡_};
+ghost use Prim.Native.Nat.{_<_, _≤_};
+ghost use Rattle.basics.specs.Choice.{pick};
+ghost use Rattle.run_list.specs.Runs.{statementOf, firstOf, secondOf, slotOf};
+use card::Register;
+use instructions::Instruction;
+
+fn wide(n: u8) -> usize
+    ensures { λ r. ⌜ (r ≡ n) × (r < 256) ⌝ }
+{
+    n as usize
+}
+
+// The statement that S names.
+fn statement_number(i: Instruction) -> u8
+    ensures { λ a. ⌜ a ≡ statementOf i ⌝ }
+{
+    match i {
+        Instruction::Broken => 0,
+        Instruction::S { number } => number,
+        Instruction::L { r: _, k: _, array: _, index: _ } => 0,
+        Instruction::C { r: _, k: _, c0: _, c1: _, c2: _, c3: _ } => 0,
+        Instruction::G { r: _, k: _, o0: _, o1: _, o2: _, o3: _ } => 0,
+        Instruction::Copy { r: _, k: _, ra: _ } => 0,
+        Instruction::O { r: _, operation: _, k: _, ra: _, rb: _ } => 0,
+        Instruction::W { r: _, k: _, array: _, index: _ } => 0,
+        Instruction::D { r: _, lane: _, array: _, index: _ } => 0,
+        Instruction::X { r: _, lane: _, variable: _ } => 0,
+    }
+}
+
+// The register that is read, or the first of two.
+fn first_register(i: Instruction) -> u8
+    ensures { λ a. ⌜ a ≡ firstOf i ⌝ }
+{
+    match i {
+        Instruction::Broken => 0,
+        Instruction::S { number: _ } => 0,
+        Instruction::L { r: _, k: _, array: _, index: _ } => 0,
+        Instruction::C { r: _, k: _, c0: _, c1: _, c2: _, c3: _ } => 0,
+        Instruction::G { r: _, k: _, o0: _, o1: _, o2: _, o3: _ } => 0,
+        Instruction::Copy { r: _, k: _, ra } => ra,
+        Instruction::O { r: _, operation: _, k: _, ra, rb: _ } => ra,
+        Instruction::W { r, k: _, array: _, index: _ } => r,
+        Instruction::D { r, lane: _, array: _, index: _ } => r,
+        Instruction::X { r, lane: _, variable: _ } => r,
+    }
+}
+
+// The second register that O reads.
+fn second_register(i: Instruction) -> u8
+    ensures { λ a. ⌜ a ≡ secondOf i ⌝ }
+{
+    match i {
+        Instruction::Broken => 0,
+        Instruction::S { number: _ } => 0,
+        Instruction::L { r: _, k: _, array: _, index: _ } => 0,
+        Instruction::C { r: _, k: _, c0: _, c1: _, c2: _, c3: _ } => 0,
+        Instruction::G { r: _, k: _, o0: _, o1: _, o2: _, o3: _ } => 0,
+        Instruction::Copy { r: _, k: _, ra: _ } => 0,
+        Instruction::O { r: _, operation: _, k: _, ra: _, rb } => rb,
+        Instruction::W { r: _, k: _, array: _, index: _ } => 0,
+        Instruction::D { r: _, lane: _, array: _, index: _ } => 0,
+        Instruction::X { r: _, lane: _, variable: _ } => 0,
+    }
+}
+
+// One of so many slots; the first where the number is none of theirs.
+fn statement_slot(n: u8) -> usize
+    ensures { λ r. ⌜ (r ≡ slotOf 64 n) × (r < 64) ⌝ }
+{
+    let slot = wide(n);
+    if slot < 64 {
+        return slot;
+    }
+    0
+}
+
+fn register_slot(n: u8) -> usize
+    ensures { λ r. ⌜ (r ≡ slotOf 97 n) × (r < 97) ⌝ }
+{
+    let slot = wide(n);
+    if slot < 97 {
+        return slot;
+    }
+    0
+}
+
+// How many registers are written: one or none.
+fn registers_more(r: Register) -> usize
+    ensures { λ n. ⌜ (n ≡ pick (r .current) 1 0) × (n ≤ 1) ⌝ }
+{
+    if r.current {
+        return 1;
+    }
+    0
+}
