@@ -1,1 +1,3 @@
 pub mod Turns
+pub mod Loads
+pub mod After

@@ -48,7 +48,7 @@ take-map f zero l = refl
 take-map f (suc k) [] = refl
 take-map {B = B} f (suc k) (x ∷ l) = ap {B = List B} (λ rest. f x ∷ rest) (take-map f k l)
 
-map-append : {A B : Type 0} (f : A → B) (l k : List A) → map f (l ++ k) ≡ map f l ++ map f k
+pub map-append : {A B : Type 0} (f : A → B) (l k : List A) → map f (l ++ k) ≡ map f l ++ map f k
 map-append f [] k = refl
 map-append {B = B} f (x ∷ l) k = ap {B = List B} (λ rest. f x ∷ rest) (map-append f l k)
 
@@ -70,7 +70,7 @@ loaded-row lengths variables cells k a i h =
 slot-there : (slots n : ℕ) → n < slots → slotOf slots n ≡ n
 slot-there slots n h = rw (lt-ltb n slots h)
 
-length-counts : (registers : List Register) (n : ℕ) → n ≤ length registers → length (countsOf registers n) ≡ n
+pub length-counts : (registers : List Register) (n : ℕ) → n ≤ length registers → length (countsOf registers n) ≡ n
 length-counts registers n h =
     length-map (map held (take n registers)) length ∙ length-map (take n registers) held ∙ omega (arith, length-take n registers)
 

@@ -11,7 +11,7 @@ use Rattle.basics.specs.Lists.{each}
 use Rattle.meaning.specs.declared.Statement.{Statement}
 use Rattle.meaning.specs.Block.{Block, blank}
 use Rattle.meaning.specs.Machine.{Contents}
-use Rattle.meaning.specs.List.{Instruction as Meaning, listPrice}
+use Rattle.meaning.specs.List.{Instruction as Meaning, listPrice, allowed}
 use Rattle.meaning.specs.Card.{Card, runInstruction}
 use Rattle.instructions.specs.declared.Instruction.{Instruction}
 use Rattle.instructions.specs.declared.Instruction.the-variants.{Broken, S, L, C, G, Copy, O, W, D, X}
@@ -83,3 +83,8 @@ paid b price (some list) = price + listPrice (b .statements) list
 abbrev pub left : Block → Card → Option (List Meaning) → Contents
 left b c none = c .contents
 left b c (some list) = each (runInstruction b) list c .contents
+
+-- what is left reads, and is allowed behind the registers written so far
+abbrev pub obeyed : Block → List ℕ → Option (List Meaning) → Bool
+obeyed b written none = false
+obeyed b written (some list) = allowed b written list
