@@ -81,7 +81,7 @@ pub struct Register {
 }
 
 // One field of a record, counted from its code.
-fn field(bytes: &[u8], i: usize) -> u8
+pub fn field(bytes: &[u8], i: usize) -> u8
     ensures { λ r. ⌜ r ≡ getD (now (bytes .entry)) i 0 ⌝ }
 {
     if i < bytes.len() {

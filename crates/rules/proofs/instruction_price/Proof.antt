@@ -1,0 +1,103 @@
+-- `rules::instruction_price` meets its contract.
+use native.Mathlib.Omega.{arith}
+use borrow.Author.Tests.{le-ltb, lt-ltb, le-leb, lt-leb, eq-eqb, ne-eqb}
+use borrow.Author.Needs.{needs}
+use Rattle.rules.proofs.instruction_price.Statement.{statement}
+use Rattle.rules.proofs.instruction_price.Tie as tie
+use Rattle.rules.proofs.instruction_price.Reads as reads
+use Rattle.rules.proofs.instruction_price.Lts as lts
+use Rattle.rules.proofs.gather_price.Reads as gather-price-reads
+use Rattle.run_block.proofs.statement_price.Reads as statement-price-reads
+
+enum-told : tie.Need-enum-told
+enum-told c = search needs
+
+enum-told-2 : tie.Need-enum-told-2
+enum-told-2 c = search needs
+
+statement-price-requires : tie.Need-statement-price-requires
+statement-price-requires c κs = search needs
+
+enum-told-3 : tie.Need-enum-told-3
+enum-told-3 c = search needs
+
+enum-told-4 : tie.Need-enum-told-4
+enum-told-4 c = search needs
+
+enum-known-instruction : tie.Need-enum-known-instruction
+enum-known-instruction c = search needs
+
+gather-price-requires : tie.Need-gather-price-requires
+gather-price-requires c κs = search needs
+
+enum-told-5 : tie.Need-enum-told-5
+enum-told-5 c = search needs
+
+enum-told-6 : tie.Need-enum-told-6
+enum-told-6 c = search needs
+
+enum-told-7 : tie.Need-enum-told-7
+enum-told-7 c = search needs
+
+enum-told-8 : tie.Need-enum-told-8
+enum-told-8 c = search needs
+
+enum-told-9 : tie.Need-enum-told-9
+enum-told-9 c = search needs
+
+returns : tie.Need-returns
+returns c = search needs
+
+returns-2 : tie.Need-returns-2
+returns-2 c = (rw (c .before .enum-told2 .given .1) (c .statement-price .ensures .0), omega (arith, c .statement-price .ensures .1))
+
+returns-3 : tie.Need-returns-3
+returns-3 c = search needs
+
+returns-4 : tie.Need-returns-4
+returns-4 c = search needs
+
+returns-5 : tie.Need-returns-5
+returns-5 c = (rw (c .before .before .instruction .given .1) (c .gather-price .ensures .0), c .gather-price .ensures .1)
+
+returns-6 : tie.Need-returns-6
+returns-6 c = search needs
+
+returns-7 : tie.Need-returns-7
+returns-7 c = search needs
+
+returns-8 : tie.Need-returns-8
+returns-8 c = search needs
+
+returns-9 : tie.Need-returns-9
+returns-9 c = search needs
+
+returns-10 : tie.Need-returns-10
+returns-10 c = search needs
+
+pub instruction-price-spec : {M : Type 1} → statement M
+instruction-price-spec =
+    tie.close
+    (tie.spec
+    enum-told
+    enum-told-2
+    statement-price-requires
+    enum-told-3
+    enum-told-4
+    enum-known-instruction
+    gather-price-requires
+    enum-told-5
+    enum-told-6
+    enum-told-7
+    enum-told-8
+    enum-told-9
+    returns
+    returns-2
+    returns-3
+    returns-4
+    returns-5
+    returns-6
+    returns-7
+    returns-8
+    returns-9
+    returns-10)
