@@ -36,7 +36,10 @@ stored-by registers n w false below = rw (add-zero, take-set-le n registers n w 
 
 pub stored : (registers : List Register) (n : ℕ) (w : Register) (test : Bool) (lanes : List ℕ) → n < length registers → w .current ≡ test → held w ≡ lanes
     → map held (take (n + pick (w .current) 1 0) (set registers n w)) ≡ pick test (map held (take n registers) ++ lanes ∷ []) (map held (take n registers))
-stored registers n w test lanes below e h = rw (e, ← h) (stored-by registers n w test below)
+stored registers n w test lanes below e h =
+    ap (λ (t : Bool). map held (take (n + pick t 1 0) (set registers n w))) e
+    ∙ stored-by registers n w test below
+    ∙ ap (λ (l : List ℕ). pick test (map held (take n registers) ++ l ∷ []) (map held (take n registers))) h
 
 -- a 97th register is not allowed
 module _ (b : Block) (registers : List Register) (n : ℕ) (small : n ≤ 96) (sized : length registers ≡ 97) where

@@ -1,3 +1,4 @@
 pub mod Turns
 pub mod Loads
 pub mod After
+pub mod Again

@@ -15,9 +15,9 @@ use Rattle.basics.specs.Choice.{pick}
 use Rattle.basics.proofs.Tests.{and-left, and-right}
 use Rattle.meaning.specs.declared.Statement.{Statement}
 use Rattle.meaning.specs.declared.Operand.{Operand}
-use Rattle.meaning.specs.Block.{Block, blank, statement}
+use Rattle.meaning.specs.Block.{Block, blank, statement, statementPrice}
 use Rattle.meaning.specs.Machine.{Contents, cellAt, fetch, fetchPlace}
-use Rattle.meaning.specs.List.{Instruction as Meaning, isNext, isWritten, hasLane, isAllowed, writtenAfter}
+use Rattle.meaning.specs.List.{Instruction as Meaning, isNext, isWritten, hasLane, isAllowed, instructionPrice}
 use Rattle.meaning.specs.List as List
 use Rattle.meaning.specs.Card.{Card, row, lanesOf, operateLanes, runInstruction}
 use Rattle.instructions.specs.declared.Instruction.{Instruction}
@@ -29,6 +29,9 @@ use Rattle.card.specs.Registers.{held, rowFetched}
 use Rattle.card.specs.Registers as Registers
 use Rattle.card.specs.Step.{writes, lanesAfter, contentsAfter}
 use Rattle.card.proofs.Lanes.{row-fetched, row-stored}
+use Rattle.rules.specs.Price.{priceOf, priceMeant}
+use Rattle.rules.specs.Price as Price
+use Rattle.rules.proofs.Tied.{price-meant}
 use Rattle.run_list.specs.Runs.{statementOf, firstOf, secondOf, slotOf, registerAt, statementAt, cardOf, countsOf}
 
 -- L has at most four lanes
@@ -143,3 +146,24 @@ module _ (b : Block) (slots : List Statement) (count : ℕ) (are : b .statements
 
   pub turn : (i : Instruction) (j : Meaning) → meant i ≡ some j → loadLanes j ≤ 4 → isAllowed b counts j ≡ true → runInstruction b j card ≡ tabled i
   turn i j e = subst (Turn i) e (turns i)
+
+  -- the price with the statement that the table has
+  abbrev Priced : Instruction → Option Meaning → Type 0
+  Priced i none = Unit
+  Priced i (some j) = isAllowed b counts j ≡ true → priceOf i (statementAt slots (statementOf i)) ≡ priceOf i (Price.named (b .statements) i)
+
+  prices : (i : Instruction) → Priced i (meant i)
+  prices Broken = tt
+  prices (S s) = λ ok. ap statementPrice (sym (named s (ltb-true s (length (b .statements)) ok)))
+  prices (L r k a i) = λ ok. refl
+  prices (C r k c₀ c₁ c₂ c₃) = λ ok. refl
+  prices (G r k o₀ o₁ o₂ o₃) = λ ok. refl
+  prices (Copy r k ra) = λ ok. refl
+  prices (O r operation k ra rb) = λ ok. refl
+  prices (W r k a i) = λ ok. refl
+  prices (D r lane a i) = λ ok. refl
+  prices (X r lane v) = λ ok. refl
+
+  pub priced : (i : Instruction) (j : Meaning) → meant i ≡ some j → isAllowed b counts j ≡ true
+      → priceOf i (statementAt slots (statementOf i)) ≡ instructionPrice (b .statements) j
+  priced i j e ok = subst (Priced i) e (prices i) ok ∙ price-meant (b .statements) i ∙ ap (priceMeant (b .statements)) e

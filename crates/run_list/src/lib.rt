@@ -3,8 +3,15 @@
 ghost use mathlib.Core.Path.{_≡_};
 ghost use Prim.Native.Nat.{_<_, _≤_};
 ghost use Rattle.basics.specs.Choice.{pick};
-ghost use Rattle.run_list.specs.Runs.{statementOf, firstOf, secondOf, slotOf};
+ghost use mathlib.Core.Bool.{true};
+ghost use mathlib.Core.List.{[]};
+ghost use lib.ListN.{drop};
+ghost use Rattle.meaning.specs.Block.{declared};
+ghost use Rattle.meaning.specs.List.{readRecords};
+ghost use Rattle.memory.specs.Lent.{lent};
+ghost use Rattle.run_list.specs.Runs.{statementOf, firstOf, secondOf, slotOf, cardOf, paid, left, obeyed};
 use card::Register;
+use meaning::Block;
 use instructions::Instruction;
 
 fn wide(n: u8) -> usize
@@ -96,4 +103,45 @@ fn registers_more(r: Register) -> usize
         return 1;
     }
     0
+}
+
+// The records, one after the other, on a table of the registers written so far. A table with one slot
+// more than there are registers takes what is not kept. Returns the price paid.
+fn run_records(
+    block: Block,
+    count: usize,
+    bytes: &[u8],
+    lengths: &[u16],
+    variables: &mut [u32],
+    cells: &mut [u32],
+) -> usize
+    requires { ⌜ (now lengths ≡ declared block .lengths) × (count ≤ 255)
+        × (obeyed (declared block) [] (readRecords count (drop 4 (now bytes))) ≡ true) ⌝ }
+    ensures { λ r. ⌜ (r ≡ paid (declared block) 0 (readRecords count (drop 4 (now (bytes .entry)))))
+        × (lent (now (variables .exit)) (now (cells .exit))
+            ≡ left (declared block) (cardOf [] 0 (lent (now (variables .entry)) (now (cells .entry)))) (readRecords count (drop 4 (now (bytes .entry))))) ⌝ }
+{
+    let none = card::no_register();
+    let mut registers = [none; 97];
+    let mut n: usize = 0;
+    let mut start: usize = 4;
+    let mut price: usize = 0;
+    let mut i: usize = 0;
+    while i < count {
+        let next = instructions::next_instruction(bytes, start);
+        let instruction = next.instruction;
+        let named = statement_slot(statement_number(instruction));
+        let first = register_slot(first_register(instruction));
+        let second = register_slot(second_register(instruction));
+        let s = block.statements[named];
+        let a = registers[first];
+        let b = registers[second];
+        let written = card::step(instruction, s, a, b, lengths, variables, cells);
+        registers[n] = written;
+        n += registers_more(written);
+        price += rules::instruction_price(instruction, s);
+        start = next.end;
+        i += 1;
+    }
+    price
 }
