@@ -87,3 +87,36 @@ module _ (b : Block) (slots : List Statement) (count : ℕ) (are : b .statements
       ap (left b (cardOf registers n (lent variables cells))) split
       ∙ one-left b (countsOf registers n) j (cardOf registers n (lent variables cells)) rest ok-split
       ∙ ap (λ (c : Card). left b c rest) same-card
+
+-- the same, as the loop has it: the array lengths, the statement, the registers and the next place by their values
+pub onward : (b : Block) (slots : List Statement) (count : ℕ) → b .statements ≡ take count slots → length slots ≡ 64
+    → (registers : List Register) (n : ℕ) → n ≤ 96 → length registers ≡ 97 → (variables cells bytes : List ℕ) (start k : ℕ)
+    → obeyed b (countsOf registers n) (readRecords (suc k) (drop start bytes)) ≡ true
+    → (i : Instruction) → meant i ≡ instructionAt bytes start
+    → (lengths : List ℕ) (s : Statement) (x y w : Register) (after : Contents)
+    → lengths ≡ b .lengths → s ≡ statementAt slots (statementOf i) → x ≡ registerAt registers (firstOf i) → y ≡ registerAt registers (secondOf i)
+    → w .current ≡ writes i
+    → held w ≡ lanesAfter lengths (lent variables cells) (held x) (held y) i
+    → after ≡ contentsAfter lengths s (held x) i (lent variables cells)
+    → (one end p price : ℕ) → one ≡ pick (w .current) 1 0 → end ≡ endAt bytes start → p ≡ priceOf i s
+    → (n + one ≤ 96)
+    × (obeyed b (countsOf (set registers n w) (n + one)) (readRecords k (drop end bytes)) ≡ true)
+    × (paid b price (readRecords (suc k) (drop start bytes)) ≡ paid b (price + p) (readRecords k (drop end bytes)))
+    × (left b (cardOf registers n (lent variables cells)) (readRecords (suc k) (drop start bytes))
+    ≡ left b (cardOf (set registers n w) (n + one) after) (readRecords k (drop end bytes)))
+onward b slots count are room registers n small sized variables cells bytes start k ok i e lengths s x y w after el es ex ey current lanes contents one end p price e₁ e₂ e₃ =
+    let lanes′ : held w ≡ lanesAfter (b .lengths) (lent variables cells) (held (registerAt registers (firstOf i))) (held (registerAt registers (secondOf i))) i =
+        lanes ∙ ap (λ (l : List ℕ). lanesAfter l (lent variables cells) (held x) (held y) i) el
+        ∙ ap₂ (λ (x y : Register). lanesAfter (b .lengths) (lent variables cells) (held x) (held y) i) ex ey
+    in
+    let contents′ : after ≡ contentsAfter (b .lengths) (statementAt slots (statementOf i)) (held (registerAt registers (firstOf i))) i (lent variables cells) =
+        contents ∙ ap (λ (l : List ℕ). contentsAfter l s (held x) i (lent variables cells)) el
+        ∙ ap₂ (λ (s : Statement) (x : Register). contentsAfter (b .lengths) s (held x) i (lent variables cells)) es ex
+    in
+    let p′ : p ≡ priceOf i (statementAt slots (statementOf i)) = e₃ ∙ ap (priceOf i) es in
+    rw (e₁, e₂, p′) (
+      more-small b slots count are room registers n small sized variables cells bytes start k ok i e w current lanes′ after contents′,
+      still-allowed b slots count are room registers n small sized variables cells bytes start k ok i e w current lanes′ after contents′,
+      still-paid b slots count are room registers n small sized variables cells bytes start k ok i e w current lanes′ after contents′ price,
+      still-left b slots count are room registers n small sized variables cells bytes start k ok i e w current lanes′ after contents′,
+    )
