@@ -34,14 +34,53 @@ fn is_read(instruction: Instruction) -> bool
     match instruction {
         Instruction::Broken => false,
         Instruction::S { number: _ } => true,
-        Instruction::L { r: _, k: _, array: _, index: _ } => true,
-        Instruction::C { r: _, k: _, c0: _, c1: _, c2: _, c3: _ } => true,
-        Instruction::G { r: _, k: _, o0: _, o1: _, o2: _, o3: _ } => true,
+        Instruction::L {
+            r: _,
+            k: _,
+            array: _,
+            index: _,
+        } => true,
+        Instruction::C {
+            r: _,
+            k: _,
+            c0: _,
+            c1: _,
+            c2: _,
+            c3: _,
+        } => true,
+        Instruction::G {
+            r: _,
+            k: _,
+            o0: _,
+            o1: _,
+            o2: _,
+            o3: _,
+        } => true,
         Instruction::Copy { r: _, k: _, ra: _ } => true,
-        Instruction::O { r: _, operation: _, k: _, ra: _, rb: _ } => true,
-        Instruction::W { r: _, k: _, array: _, index: _ } => true,
-        Instruction::D { r: _, lane: _, array: _, index: _ } => true,
-        Instruction::X { r: _, lane: _, variable: _ } => true,
+        Instruction::O {
+            r: _,
+            operation: _,
+            k: _,
+            ra: _,
+            rb: _,
+        } => true,
+        Instruction::W {
+            r: _,
+            k: _,
+            array: _,
+            index: _,
+        } => true,
+        Instruction::D {
+            r: _,
+            lane: _,
+            array: _,
+            index: _,
+        } => true,
+        Instruction::X {
+            r: _,
+            lane: _,
+            variable: _,
+        } => true,
     }
 }
 
@@ -91,7 +130,14 @@ fn records_allowed(bytes: &[u8], count: usize, block: Block) -> bool
     while i < count {
         let next = instructions::next_instruction(bytes, start);
         let instruction = next.instruction;
-        if rules::obeys(instruction, &written[..n], statements, variables, arrays, &lengths) {
+        if rules::obeys(
+            instruction,
+            &written[..n],
+            statements,
+            variables,
+            arrays,
+            &lengths,
+        ) {
             written[n] = rules::lanes_written(instruction);
             n += rules::registers_written(instruction);
             start = next.end;
@@ -100,7 +146,8 @@ fn records_allowed(bytes: &[u8], count: usize, block: Block) -> bool
             return false;
         }
     }
-    bytes.len() <= start
+    let behind = bytes.len();
+    behind <= start
 }
 
 // 9, for a list that reads.

@@ -1,7 +1,6 @@
 -- The rules, the register written and the price of an instruction as it was read are those of the instruction that it means.
-use mathlib.Core.Path.{_≡_, refl, sym, ap, _∙_}
+use mathlib.Core.Path.{_≡_, refl, sym, ap}
 use mathlib.Core.Bool.{Bool, true, _&&_, and-true}
-use mathlib.Core.Option.{Option, none, some}
 use mathlib.Core.List.{List, [], _∷_, _++_, append-nil}
 use Prim.Native.Nat.{ℕ, _+_, _≤_}
 use native.Mathlib.Omega.{arith}
@@ -10,8 +9,8 @@ use lib.ListN.{length, take}
 use borrow.Author.Tests.{eqb-true, ltb-true}
 use Rattle.basics.proofs.Tests.{and-left, and-right}
 use Rattle.meaning.specs.declared.Statement.{Statement}
-use Rattle.meaning.specs.Block.{Block, statement}
-use Rattle.meaning.specs.List.{Instruction as Meaning, isNext, isWritten, instructionPrice}
+use Rattle.meaning.specs.Block.{Block}
+use Rattle.meaning.specs.List.{isNext, isWritten}
 use Rattle.instructions.specs.declared.Instruction.{Instruction}
 use Rattle.instructions.specs.declared.Instruction.the-variants.{Broken, S, L, C, G, Copy, O, W, D, X}
 use Rattle.instructions.specs.Meant.{meant}

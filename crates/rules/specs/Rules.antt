@@ -1,8 +1,8 @@
 -- The rules of 9 for an instruction as it was read, with its constants and operands in four slots, and the lanes of the register that it writes.
 use Prim.Native.Nat.{ℕ, _+_, min}
-use mathlib.Core.Bool.{Bool, true, false, _&&_, _||_}
+use mathlib.Core.Bool.{Bool, false, _&&_, _||_}
 use mathlib.Core.Option.{Option, none, some}
-use mathlib.Core.List.{List, [], _∷_}
+use mathlib.Core.List.{List}
 use lib.Dec.{ltb, leb}
 use lib.ListN.{length, getD}
 use Rattle.meaning.specs.declared.Operand.{Operand}

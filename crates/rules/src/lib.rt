@@ -60,14 +60,7 @@ fn declares_row(array: u8, index: u8, k: u8, arrays: u8, lengths: &[u16]) -> boo
 }
 
 // An operand in a slot past the lanes is not asked.
-fn declares_slot(
-    o: Operand,
-    slot: u8,
-    k: u8,
-    variables: u8,
-    arrays: u8,
-    lengths: &[u16; 8],
-) -> bool
+fn declares_slot(o: Operand, slot: u8, k: u8, variables: u8, arrays: u8, lengths: &[u16; 8]) -> bool
     ensures { λ a. ⌜ a ≡ slotDeclared variables (take arrays (now (lengths .entry))) k slot o ⌝ }
 {
     if k <= slot {
@@ -114,8 +107,22 @@ pub fn obeys(
             }
             false
         }
-        Instruction::C { r, k: _, c0: _, c1: _, c2: _, c3: _ } => is_next(written, r),
-        Instruction::G { r, k, o0, o1, o2, o3 } => {
+        Instruction::C {
+            r,
+            k: _,
+            c0: _,
+            c1: _,
+            c2: _,
+            c3: _,
+        } => is_next(written, r),
+        Instruction::G {
+            r,
+            k,
+            o0,
+            o1,
+            o2,
+            o3,
+        } => {
             if is_next(written, r) {
                 if declares_two(o0, o1, 0, k, variables, arrays, lengths) {
                     return declares_two(o2, o3, 2, k, variables, arrays, lengths);
@@ -129,7 +136,13 @@ pub fn obeys(
             }
             false
         }
-        Instruction::O { r, operation: _, k, ra, rb } => {
+        Instruction::O {
+            r,
+            operation: _,
+            k,
+            ra,
+            rb,
+        } => {
             if is_next(written, r) {
                 if is_written(written, ra, k) {
                     return is_written(written, rb, k);
@@ -143,15 +156,30 @@ pub fn obeys(
             }
             false
         }
-        Instruction::D { r, lane, array, index } => {
+        Instruction::D {
+            r,
+            lane,
+            array,
+            index,
+        } => {
             if has_lane(written, r, lane) {
-                return reader::declares_place(Place::Cell(array, index), variables, arrays, lengths);
+                return reader::declares_place(
+                    Place::Cell(array, index),
+                    variables,
+                    arrays,
+                    lengths,
+                );
             }
             false
         }
         Instruction::X { r, lane, variable } => {
             if has_lane(written, r, lane) {
-                return reader::declares_place(Place::Variable(variable), variables, arrays, lengths);
+                return reader::declares_place(
+                    Place::Variable(variable),
+                    variables,
+                    arrays,
+                    lengths,
+                );
             }
             false
         }
@@ -174,14 +202,53 @@ pub fn registers_written(instruction: Instruction) -> usize
     match instruction {
         Instruction::Broken => 0,
         Instruction::S { number: _ } => 0,
-        Instruction::L { r: _, k: _, array: _, index: _ } => 1,
-        Instruction::C { r: _, k: _, c0: _, c1: _, c2: _, c3: _ } => 1,
-        Instruction::G { r: _, k: _, o0: _, o1: _, o2: _, o3: _ } => 1,
+        Instruction::L {
+            r: _,
+            k: _,
+            array: _,
+            index: _,
+        } => 1,
+        Instruction::C {
+            r: _,
+            k: _,
+            c0: _,
+            c1: _,
+            c2: _,
+            c3: _,
+        } => 1,
+        Instruction::G {
+            r: _,
+            k: _,
+            o0: _,
+            o1: _,
+            o2: _,
+            o3: _,
+        } => 1,
         Instruction::Copy { r: _, k: _, ra: _ } => 1,
-        Instruction::O { r: _, operation: _, k: _, ra: _, rb: _ } => 1,
-        Instruction::W { r: _, k: _, array: _, index: _ } => 0,
-        Instruction::D { r: _, lane: _, array: _, index: _ } => 0,
-        Instruction::X { r: _, lane: _, variable: _ } => 0,
+        Instruction::O {
+            r: _,
+            operation: _,
+            k: _,
+            ra: _,
+            rb: _,
+        } => 1,
+        Instruction::W {
+            r: _,
+            k: _,
+            array: _,
+            index: _,
+        } => 0,
+        Instruction::D {
+            r: _,
+            lane: _,
+            array: _,
+            index: _,
+        } => 0,
+        Instruction::X {
+            r: _,
+            lane: _,
+            variable: _,
+        } => 0,
     }
 }
 
@@ -191,14 +258,53 @@ pub fn lanes_written(instruction: Instruction) -> u8
     match instruction {
         Instruction::Broken => 0,
         Instruction::S { number: _ } => 0,
-        Instruction::L { r: _, k, array: _, index: _ } => k,
-        Instruction::C { r: _, k, c0: _, c1: _, c2: _, c3: _ } => held(k),
-        Instruction::G { r: _, k, o0: _, o1: _, o2: _, o3: _ } => held(k),
+        Instruction::L {
+            r: _,
+            k,
+            array: _,
+            index: _,
+        } => k,
+        Instruction::C {
+            r: _,
+            k,
+            c0: _,
+            c1: _,
+            c2: _,
+            c3: _,
+        } => held(k),
+        Instruction::G {
+            r: _,
+            k,
+            o0: _,
+            o1: _,
+            o2: _,
+            o3: _,
+        } => held(k),
         Instruction::Copy { r: _, k, ra: _ } => k,
-        Instruction::O { r: _, operation: _, k, ra: _, rb: _ } => k,
-        Instruction::W { r: _, k: _, array: _, index: _ } => 0,
-        Instruction::D { r: _, lane: _, array: _, index: _ } => 0,
-        Instruction::X { r: _, lane: _, variable: _ } => 0,
+        Instruction::O {
+            r: _,
+            operation: _,
+            k,
+            ra: _,
+            rb: _,
+        } => k,
+        Instruction::W {
+            r: _,
+            k: _,
+            array: _,
+            index: _,
+        } => 0,
+        Instruction::D {
+            r: _,
+            lane: _,
+            array: _,
+            index: _,
+        } => 0,
+        Instruction::X {
+            r: _,
+            lane: _,
+            variable: _,
+        } => 0,
     }
 }
 
@@ -231,13 +337,52 @@ pub fn instruction_price(instruction: Instruction, statement: Statement) -> usiz
     match instruction {
         Instruction::Broken => 0,
         Instruction::S { number: _ } => run_block::statement_price(statement),
-        Instruction::L { r: _, k: _, array: _, index: _ } => 1,
-        Instruction::C { r: _, k: _, c0: _, c1: _, c2: _, c3: _ } => 1,
-        Instruction::G { r: _, k, o0, o1, o2, o3 } => gather_price(k, o0, o1, o2, o3),
+        Instruction::L {
+            r: _,
+            k: _,
+            array: _,
+            index: _,
+        } => 1,
+        Instruction::C {
+            r: _,
+            k: _,
+            c0: _,
+            c1: _,
+            c2: _,
+            c3: _,
+        } => 1,
+        Instruction::G {
+            r: _,
+            k,
+            o0,
+            o1,
+            o2,
+            o3,
+        } => gather_price(k, o0, o1, o2, o3),
         Instruction::Copy { r: _, k: _, ra: _ } => 1,
-        Instruction::O { r: _, operation: _, k: _, ra: _, rb: _ } => 1,
-        Instruction::W { r: _, k: _, array: _, index: _ } => 1,
-        Instruction::D { r: _, lane: _, array: _, index: _ } => 2,
-        Instruction::X { r: _, lane: _, variable: _ } => 1,
+        Instruction::O {
+            r: _,
+            operation: _,
+            k: _,
+            ra: _,
+            rb: _,
+        } => 1,
+        Instruction::W {
+            r: _,
+            k: _,
+            array: _,
+            index: _,
+        } => 1,
+        Instruction::D {
+            r: _,
+            lane: _,
+            array: _,
+            index: _,
+        } => 2,
+        Instruction::X {
+            r: _,
+            lane: _,
+            variable: _,
+        } => 1,
     }
 }

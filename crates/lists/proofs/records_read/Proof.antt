@@ -1,47 +1,54 @@
+-- `lists::records_read` meets its contract: what remains at i are the records from there on.
+use mathlib.Core.Path.{_≡_, sym, _∙_}
+use lib.ListN.{drop}
+use Prim.Native.Nat.{_-_, _≤_}
+use native.Mathlib.Nat.{sub-zero}
+use native.Mathlib.Omega.{arith}
+use borrow.Author.Needs.{needs}
+use Rattle.meaning.specs.List.{readRecords}
+use Rattle.lists.specs.Whole.{isSome}
+use Rattle.lists.proofs.Turns.{read-more, read-stop, read-end}
 use Rattle.lists.proofs.records_read.Statement.{statement}
 use Rattle.lists.proofs.records_read.Tie as tie
-use Rattle.lists.proofs.records_read.Reads as reads
-use Rattle.lists.proofs.records_read.Lts as lts
-use Rattle.instructions.proofs.next_instruction.Reads as next-instruction-reads
-use Rattle.lists.proofs.is_read.Reads as is-read-reads
 
 abbrev Inv-loop : tie.InvT-loop
-Inv-loop bytes count start₀ i₀ start i = ?
+Inv-loop bytes count start₀ i₀ start i = (i ≤ count) × (isSome (readRecords count (drop 4 bytes)) ≡ isSome (readRecords (count - i) (drop start bytes)))
 
 abbrev μ-loop : tie.MeasureT-loop
-μ-loop bytes count start₀ i₀ start i = ?
+μ-loop bytes count start₀ i₀ start i = count - i
 
--- src/lib.rt:54:5
 loop-holds : tie.Need-loop-holds Inv-loop μ-loop
-loop-holds c = ?
+loop-holds c = (omega arith, rw sub-zero)
 
--- src/lib.rt:55:13
 next-instruction-requires : tie.Need-next-instruction-requires Inv-loop μ-loop
-next-instruction-requires c κs = ?
+next-instruction-requires c κs = search needs
 
--- src/lib.rt:57:12
 is-read-requires : tie.Need-is-read-requires Inv-loop μ-loop
-is-read-requires c κs = ?
+is-read-requires c κs = search needs
 
--- src/lib.rt:59:13
 add-i : tie.Need-add-i Inv-loop μ-loop
-add-i c = ?
+add-i c = search needs
 
--- src/lib.rt:54:5
 loop-less : tie.Need-loop-less Inv-loop μ-loop
-loop-less c = ?
+loop-less c = search needs
 
--- src/lib.rt:54:5
 loop-again : tie.Need-loop-again Inv-loop μ-loop
-loop-again c = ?
+loop-again c =
+    let l = c .before .before .before .before .loop in
+    let a = c .before .before .before .before .before .before .args in
+    (omega arith, l .inv .1 ∙ read-more (a .bytes .now) (a .count) (l .i) (l .start) (c .before .before .next-instruction .result .instruction) (c .before .before .before .loop-test .taken) (c .before .before .next-instruction .ensures .0) (sym (c .before .is-read .ensures) ∙ c .if1 .taken) ∙ rw (← c .before .before .next-instruction .ensures .1))
 
--- src/lib.rt:61:13
 returns : tie.Need-returns Inv-loop μ-loop
-returns c = ?
+returns c =
+    let l = c .before .before .before .before .loop in
+    let a = c .before .before .before .before .before .before .args in
+    sym (l .inv .1 ∙ read-stop (a .bytes .now) (a .count) (l .i) (l .start) (c .before .before .next-instruction .result .instruction) (c .before .before .before .loop-test .taken) (c .before .before .next-instruction .ensures .0) (sym (c .before .is-read .ensures) ∙ c .if1 .left))
 
--- src/lib.rt:49:1
 returns-2 : tie.Need-returns-2 Inv-loop μ-loop
-returns-2 c = ?
+returns-2 c =
+    let l = c .before .loop in
+    let a = c .before .before .before .args in
+    sym (l .inv .1 ∙ read-end (a .bytes .now) (a .count) (l .i) (l .start) (c .loop-test .left))
 
 pub records-read-spec : {M : Type 1} → statement M
 records-read-spec =

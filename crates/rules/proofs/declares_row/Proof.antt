@@ -2,13 +2,9 @@
 use mathlib.Core.Path.{sym}
 use native.Mathlib.Omega.{arith}
 use Rattle.rules.proofs.Rows.{row-declared, row-past, row-undeclared}
-use borrow.Author.Tests.{le-ltb, lt-ltb, le-leb, lt-leb, eq-eqb, ne-eqb}
 use borrow.Author.Needs.{needs}
 use Rattle.rules.proofs.declares_row.Statement.{statement}
 use Rattle.rules.proofs.declares_row.Tie as tie
-use Rattle.rules.proofs.declares_row.Reads as reads
-use Rattle.rules.proofs.declares_row.Lts as lts
-use Rattle.reader.proofs.wide.Reads as wide-reads
 
 wide-requires : tie.Need-wide-requires
 wide-requires c κs = search needs

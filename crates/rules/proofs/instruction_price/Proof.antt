@@ -1,13 +1,8 @@
 -- `rules::instruction_price` meets its contract.
 use native.Mathlib.Omega.{arith}
-use borrow.Author.Tests.{le-ltb, lt-ltb, le-leb, lt-leb, eq-eqb, ne-eqb}
 use borrow.Author.Needs.{needs}
 use Rattle.rules.proofs.instruction_price.Statement.{statement}
 use Rattle.rules.proofs.instruction_price.Tie as tie
-use Rattle.rules.proofs.instruction_price.Reads as reads
-use Rattle.rules.proofs.instruction_price.Lts as lts
-use Rattle.rules.proofs.gather_price.Reads as gather-price-reads
-use Rattle.run_block.proofs.statement_price.Reads as statement-price-reads
 
 enum-told : tie.Need-enum-told
 enum-told c = search needs

@@ -1,291 +1,253 @@
-use borrow.Author.Tests.{le-ltb, lt-ltb, le-leb, lt-leb, eq-eqb, ne-eqb}
+-- `rules::obeys` meets its contract.
 use borrow.Author.Needs.{needs}
 use Rattle.rules.proofs.obeys.Statement.{statement}
 use Rattle.rules.proofs.obeys.Tie as tie
-use Rattle.rules.proofs.obeys.Reads as reads
-use Rattle.rules.proofs.obeys.Lts as lts
-use Rattle.reader.proofs.declares_place.Reads as declares-place-reads
-use Rattle.reader.proofs.wide.Reads as wide-reads
-use Rattle.rules.proofs.declares_row.Reads as declares-row-reads
-use Rattle.rules.proofs.declares_two.Reads as declares-two-reads
-use Rattle.rules.proofs.has_lane.Reads as has-lane-reads
-use Rattle.rules.proofs.is_next.Reads as is-next-reads
-use Rattle.rules.proofs.is_written.Reads as is-written-reads
 
--- src/lib.rt:109:32
 enum-told : tie.Need-enum-told
 enum-told c = search needs
 
--- src/lib.rt:110:26
 enum-known-instruction : tie.Need-enum-known-instruction
 enum-known-instruction c = search needs
 
--- src/lib.rt:110:38
 wide-requires : tie.Need-wide-requires
 wide-requires c κs = search needs
 
--- src/lib.rt:111:26
 enum-known-instruction-2 : tie.Need-enum-known-instruction-2
 enum-known-instruction-2 c = search needs
 
--- src/lib.rt:112:16
 is-next-requires : tie.Need-is-next-requires
 is-next-requires c κs = search needs
 
--- src/lib.rt:113:17
 declares-row-requires : tie.Need-declares-row-requires
 declares-row-requires c κs = search needs
 
--- src/lib.rt:113:17
 returns : tie.Need-returns
 returns c =
-    simp
-    (c .declares-row .ensures,
-    c .before .before .if1 .taken,
-    ← c .before .before .before .is-next .ensures,
-    c .before .before .before .before .before .instruction2 .given .1)
+    simp (
+      c .declares-row .ensures,
+      c .before .before .if1 .taken,
+      ← c .before .before .before .is-next .ensures,
+      c .before .before .before .before .before .instruction2 .given .1,
+    )
 
--- src/lib.rt:117:26
 enum-known-instruction-3 : tie.Need-enum-known-instruction-3
 enum-known-instruction-3 c = search needs
 
--- src/lib.rt:117:67
 is-next-requires-2 : tie.Need-is-next-requires-2
 is-next-requires-2 c κs = search needs
 
--- src/lib.rt:118:26
 enum-known-instruction-4 : tie.Need-enum-known-instruction-4
 enum-known-instruction-4 c = search needs
 
--- src/lib.rt:119:16
 is-next-requires-3 : tie.Need-is-next-requires-3
 is-next-requires-3 c κs = search needs
 
--- src/lib.rt:120:20
 declares-two-requires : tie.Need-declares-two-requires
 declares-two-requires c κs = search needs
 
--- src/lib.rt:121:21
 declares-two-requires-2 : tie.Need-declares-two-requires-2
 declares-two-requires-2 c κs = search needs
 
--- src/lib.rt:121:21
 returns-2 : tie.Need-returns-2
 returns-2 c =
-    simp
-    (c .declares-two2 .ensures,
-    c .before .if3 .taken,
-    ← c .before .before .declares-two .ensures,
-    c .before .before .before .if2 .taken,
-    ← c .before .before .before .before .is-next3 .ensures,
-    c .before .before .before .before .before .before .instruction4 .given .1)
+    simp (
+      c .declares-two2 .ensures,
+      c .before .if3 .taken,
+      ← c .before .before .declares-two .ensures,
+      c .before .before .before .if2 .taken,
+      ← c .before .before .before .before .is-next3 .ensures,
+      c .before .before .before .before .before .before .instruction4 .given .1,
+    )
 
--- src/lib.rt:126:29
 enum-known-instruction-5 : tie.Need-enum-known-instruction-5
 enum-known-instruction-5 c = search needs
 
--- src/lib.rt:127:16
 is-next-requires-4 : tie.Need-is-next-requires-4
 is-next-requires-4 c κs = search needs
 
--- src/lib.rt:128:17
 is-written-requires : tie.Need-is-written-requires
 is-written-requires c κs = search needs
 
--- src/lib.rt:128:17
 returns-3 : tie.Need-returns-3
 returns-3 c =
-    simp
-    (c .is-written .ensures,
-    c .before .if4 .taken,
-    ← c .before .before .is-next4 .ensures,
-    c .before .before .before .before .instruction5 .given .1)
+    simp (
+      c .is-written .ensures,
+      c .before .if4 .taken,
+      ← c .before .before .is-next4 .ensures,
+      c .before .before .before .before .instruction5 .given .1,
+    )
 
--- src/lib.rt:132:26
 enum-known-instruction-6 : tie.Need-enum-known-instruction-6
 enum-known-instruction-6 c = search needs
 
--- src/lib.rt:133:16
 is-next-requires-5 : tie.Need-is-next-requires-5
 is-next-requires-5 c κs = search needs
 
--- src/lib.rt:134:20
 is-written-requires-2 : tie.Need-is-written-requires-2
 is-written-requires-2 c κs = search needs
 
--- src/lib.rt:135:21
 is-written-requires-3 : tie.Need-is-written-requires-3
 is-written-requires-3 c κs = search needs
 
--- src/lib.rt:135:21
 returns-4 : tie.Need-returns-4
 returns-4 c =
-    simp
-    (c .is-written3 .ensures,
-    c .before .if6 .taken,
-    ← c .before .before .is-written2 .ensures,
-    c .before .before .before .if5 .taken,
-    ← c .before .before .before .before .is-next5 .ensures,
-    c .before .before .before .before .before .before .instruction6 .given .1)
+    simp (
+      c .is-written3 .ensures,
+      c .before .if6 .taken,
+      ← c .before .before .is-written2 .ensures,
+      c .before .before .before .if5 .taken,
+      ← c .before .before .before .before .is-next5 .ensures,
+      c .before .before .before .before .before .before .instruction6 .given .1,
+    )
 
--- src/lib.rt:140:26
 enum-known-instruction-7 : tie.Need-enum-known-instruction-7
 enum-known-instruction-7 c = search needs
 
--- src/lib.rt:141:16
 is-written-requires-4 : tie.Need-is-written-requires-4
 is-written-requires-4 c κs = search needs
 
--- src/lib.rt:142:17
 declares-row-requires-2 : tie.Need-declares-row-requires-2
 declares-row-requires-2 c κs = search needs
 
--- src/lib.rt:142:17
 returns-5 : tie.Need-returns-5
 returns-5 c =
-    simp
-    (c .declares-row2 .ensures,
-    c .before .before .if7 .taken,
-    ← c .before .before .before .is-written4 .ensures,
-    c .before .before .before .before .before .instruction7 .given .1)
+    simp (
+      c .declares-row2 .ensures,
+      c .before .before .if7 .taken,
+      ← c .before .before .before .is-written4 .ensures,
+      c .before .before .before .before .before .instruction7 .given .1,
+    )
 
--- src/lib.rt:146:26
 enum-known-instruction-8 : tie.Need-enum-known-instruction-8
 enum-known-instruction-8 c = search needs
 
--- src/lib.rt:147:16
 has-lane-requires : tie.Need-has-lane-requires
 has-lane-requires c κs = search needs
 
--- src/lib.rt:148:17
 declares-place-requires : tie.Need-declares-place-requires
 declares-place-requires c κs = search needs
 
--- src/lib.rt:148:17
 returns-6 : tie.Need-returns-6
 returns-6 c =
-    simp
-    (c .declares-place .ensures,
-    c .before .if8 .taken,
-    ← c .before .before .has-lane .ensures,
-    c .before .before .before .before .instruction8 .given .1)
+    simp (
+      c .declares-place .ensures,
+      c .before .if8 .taken,
+      ← c .before .before .has-lane .ensures,
+      c .before .before .before .before .instruction8 .given .1,
+    )
 
--- src/lib.rt:152:26
 enum-known-instruction-9 : tie.Need-enum-known-instruction-9
 enum-known-instruction-9 c = search needs
 
--- src/lib.rt:153:16
 has-lane-requires-2 : tie.Need-has-lane-requires-2
 has-lane-requires-2 c κs = search needs
 
--- src/lib.rt:154:17
 declares-place-requires-2 : tie.Need-declares-place-requires-2
 declares-place-requires-2 c κs = search needs
 
--- src/lib.rt:154:17
 returns-7 : tie.Need-returns-7
 returns-7 c =
-    simp
-    (c .declares-place2 .ensures,
-    c .before .if9 .taken,
-    ← c .before .before .has-lane2 .ensures,
-    c .before .before .before .before .instruction9 .given .1)
+    simp (
+      c .declares-place2 .ensures,
+      c .before .if9 .taken,
+      ← c .before .before .has-lane2 .ensures,
+      c .before .before .before .before .instruction9 .given .1,
+    )
 
--- src/lib.rt:98:1
 returns-8 : tie.Need-returns-8
 returns-8 c =
     simp
     (c .enum-told .given .1)
 
--- src/lib.rt:98:1
 returns-9 : tie.Need-returns-9
 returns-9 c =
-    simp
-    (c .wide .ensures,
-    c .before .before .instruction .given .1)
+    simp (
+      c .wide .ensures,
+      c .before .before .instruction .given .1,
+    )
 
--- src/lib.rt:98:1
 returns-10 : tie.Need-returns-10
 returns-10 c =
-    simp
-    (c .if1 .left,
-    ← c .before .is-next .ensures,
-    c .before .before .before .instruction2 .given .1)
+    simp (
+      c .if1 .left,
+      ← c .before .is-next .ensures,
+      c .before .before .before .instruction2 .given .1,
+    )
 
--- src/lib.rt:98:1
 returns-11 : tie.Need-returns-11
 returns-11 c =
-    simp
-    (c .is-next2 .ensures,
-    c .before .before .instruction3 .given .1)
+    simp (
+      c .is-next2 .ensures,
+      c .before .before .instruction3 .given .1,
+    )
 
--- src/lib.rt:98:1
 returns-12 : tie.Need-returns-12
 returns-12 c =
-    simp
-    (c .if3 .left,
-    ← c .before .declares-two .ensures,
-    c .before .before .if2 .taken,
-    ← c .before .before .before .is-next3 .ensures,
-    c .before .before .before .before .before .instruction4 .given .1)
+    simp (
+      c .if3 .left,
+      ← c .before .declares-two .ensures,
+      c .before .before .if2 .taken,
+      ← c .before .before .before .is-next3 .ensures,
+      c .before .before .before .before .before .instruction4 .given .1,
+    )
 
--- src/lib.rt:98:1
 returns-13 : tie.Need-returns-13
 returns-13 c =
-    simp
-    (c .if2 .left,
-    ← c .before .is-next3 .ensures,
-    c .before .before .before .instruction4 .given .1)
+    simp (
+      c .if2 .left,
+      ← c .before .is-next3 .ensures,
+      c .before .before .before .instruction4 .given .1,
+    )
 
--- src/lib.rt:98:1
 returns-14 : tie.Need-returns-14
 returns-14 c =
-    simp
-    (c .if4 .left,
-    ← c .before .is-next4 .ensures,
-    c .before .before .before .instruction5 .given .1)
+    simp (
+      c .if4 .left,
+      ← c .before .is-next4 .ensures,
+      c .before .before .before .instruction5 .given .1,
+    )
 
--- src/lib.rt:98:1
 returns-15 : tie.Need-returns-15
 returns-15 c =
-    simp
-    (c .if6 .left,
-    ← c .before .is-written2 .ensures,
-    c .before .before .if5 .taken,
-    ← c .before .before .before .is-next5 .ensures,
-    c .before .before .before .before .before .instruction6 .given .1)
+    simp (
+      c .if6 .left,
+      ← c .before .is-written2 .ensures,
+      c .before .before .if5 .taken,
+      ← c .before .before .before .is-next5 .ensures,
+      c .before .before .before .before .before .instruction6 .given .1,
+    )
 
--- src/lib.rt:98:1
 returns-16 : tie.Need-returns-16
 returns-16 c =
-    simp
-    (c .if5 .left,
-    ← c .before .is-next5 .ensures,
-    c .before .before .before .instruction6 .given .1)
+    simp (
+      c .if5 .left,
+      ← c .before .is-next5 .ensures,
+      c .before .before .before .instruction6 .given .1,
+    )
 
--- src/lib.rt:98:1
 returns-17 : tie.Need-returns-17
 returns-17 c =
-    simp
-    (c .if7 .left,
-    ← c .before .is-written4 .ensures,
-    c .before .before .before .instruction7 .given .1)
+    simp (
+      c .if7 .left,
+      ← c .before .is-written4 .ensures,
+      c .before .before .before .instruction7 .given .1,
+    )
 
--- src/lib.rt:98:1
 returns-18 : tie.Need-returns-18
 returns-18 c =
-    simp
-    (c .if8 .left,
-    ← c .before .has-lane .ensures,
-    c .before .before .before .instruction8 .given .1)
+    simp (
+      c .if8 .left,
+      ← c .before .has-lane .ensures,
+      c .before .before .before .instruction8 .given .1,
+    )
 
--- src/lib.rt:98:1
 returns-19 : tie.Need-returns-19
 returns-19 c =
-    simp
-    (c .if9 .left,
-    ← c .before .has-lane2 .ensures,
-    c .before .before .before .instruction9 .given .1)
+    simp (
+      c .if9 .left,
+      ← c .before .has-lane2 .ensures,
+      c .before .before .before .instruction9 .given .1,
+    )
 
 pub obeys-spec : {M : Type 1} → statement M
 obeys-spec =

@@ -1,12 +1,9 @@
 -- `rules::slot_price` meets its contract.
 use native.Mathlib.Omega.{arith}
-use borrow.Author.Tests.{le-ltb, lt-ltb, le-leb, lt-leb, eq-eqb, ne-eqb}
+use borrow.Author.Tests.{le-leb, lt-leb}
 use borrow.Author.Needs.{needs}
 use Rattle.rules.proofs.slot_price.Statement.{statement}
 use Rattle.rules.proofs.slot_price.Tie as tie
-use Rattle.rules.proofs.slot_price.Reads as reads
-use Rattle.rules.proofs.slot_price.Lts as lts
-use Rattle.run_block.proofs.cell_operand.Reads as cell-operand-reads
 
 returns : tie.Need-returns
 returns c = (rw (le-leb _ _ (c .if1 .taken)), omega arith)
