@@ -26,13 +26,12 @@ use Rattle.instructions.specs.Meant.{meant}
 use Rattle.memory.specs.Lent.{lent}
 use Rattle.card.specs.declared.Register.{Register}
 use Rattle.card.specs.Registers.{held, rowFetched}
-use Rattle.card.specs.Registers as Registers
 use Rattle.card.specs.Step.{writes, lanesAfter, contentsAfter}
 use Rattle.card.proofs.Lanes.{row-fetched, row-stored}
 use Rattle.rules.specs.Price.{priceOf, priceMeant}
 use Rattle.rules.specs.Price as Price
 use Rattle.rules.proofs.Tied.{price-meant}
-use Rattle.run_list.specs.Runs.{statementOf, firstOf, secondOf, slotOf, registerAt, statementAt, cardOf, countsOf}
+use Rattle.run_list.specs.Runs.{statementOf, firstOf, secondOf, slotOf, missing, registerAt, statementAt, cardOf, countsOf}
 
 -- L has at most four lanes
 abbrev pub loadLanes : Meaning → ℕ
@@ -81,8 +80,8 @@ length-counts registers n h =
 lanes-there : (registers : List Register) (n r : ℕ) (m : Contents) → n ≤ 96 → length registers ≡ 97 → r < n
     → lanesOf (cardOf registers n m) r ≡ held (registerAt registers r)
 lanes-there registers n r m small sized below =
-    List·getD-map held (take n registers) r Registers.blank
-    ∙ ap held (getD-take n registers r Registers.blank below ∙ ap (λ (k : ℕ). getD registers k Registers.blank) (sym (slot-there 97 r (omega arith))))
+    List·getD-map held (take n registers) r missing
+    ∙ ap held (getD-take n registers r missing below ∙ ap (λ (k : ℕ). getD registers k missing) (sym (slot-there 97 r (omega arith))))
 
 module _ (b : Block) (slots : List Statement) (count : ℕ) (are : b .statements ≡ take count slots) (room : length slots ≡ 64)
     (registers : List Register) (n : ℕ) (small : n ≤ 96) (sized : length registers ≡ 97) (variables cells : List ℕ) where

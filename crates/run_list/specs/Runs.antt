@@ -3,7 +3,7 @@
 use Prim.Native.Nat.{ℕ, _+_}
 use mathlib.Core.Bool.{Bool, true, false}
 use mathlib.Core.Option.{Option, none, some}
-use mathlib.Core.List.{List, map}
+use mathlib.Core.List.{List, [], map}
 use lib.Dec.{ltb}
 use lib.ListN.{length, getD, take}
 use Rattle.basics.specs.Choice.{pick}
@@ -17,7 +17,6 @@ use Rattle.instructions.specs.declared.Instruction.{Instruction}
 use Rattle.instructions.specs.declared.Instruction.the-variants.{Broken, S, L, C, G, Copy, O, W, D, X}
 use Rattle.card.specs.declared.Register.{Register}
 use Rattle.card.specs.Registers.{held}
-use Rattle.card.specs.Registers as Registers
 
 -- the statement that S names; 0 where none is named
 abbrev pub statementOf : Instruction → ℕ
@@ -61,8 +60,12 @@ secondOf (X r lane v) = 0
 abbrev pub slotOf : ℕ → ℕ → ℕ
 slotOf slots n = pick (ltb n slots) n 0
 
+-- what stands past a table's end
+abbrev pub missing : Register
+missing = record { lanes = []; count = 0; current = false }
+
 abbrev pub registerAt : List Register → ℕ → Register
-registerAt registers r = getD registers (slotOf 97 r) Registers.blank
+registerAt registers r = getD registers (slotOf 97 r) missing
 
 abbrev pub statementAt : List Statement → ℕ → Statement
 statementAt statements s = getD statements (slotOf 64 s) blank

@@ -11,11 +11,10 @@ use Rattle.basics.proofs.Counting.{more, none-left}
 use Rattle.meaning.specs.Block.{declared}
 use Rattle.meaning.specs.List.{readRecords}
 use Rattle.memory.specs.Lent.{lent}
-use Rattle.run_list.specs.Runs.{slotOf, cardOf, countsOf, paid, left, obeyed}
+use Rattle.run_list.specs.Runs.{slotOf, missing, cardOf, countsOf, paid, left, obeyed}
 use Rattle.meaning.specs.declared.Statement.{Statement}
 use Rattle.meaning.specs.Block.{blank}
 use Rattle.card.specs.declared.Register.{Register}
-use Rattle.card.specs.Registers as Registers
 use Rattle.run_list.proofs.After.{none-left as ended}
 use Rattle.run_list.proofs.Again as Again
 use Rattle.run_list.proofs.run_records.Statement.{statement}
@@ -38,7 +37,7 @@ abbrev statementIn : List Statement → ℕ → Statement
 statementIn statements slot = getD statements slot blank
 
 abbrev registerIn : List Register → ℕ → Register
-registerIn registers slot = getD registers slot Registers.blank
+registerIn registers slot = getD registers slot missing
 
 abbrev Inv-loop : tie.InvT-loop
 Inv-loop count bytes lengths variables₀ cells₀ block registers₀ n₀ start₀ price₀ i₀ variables cells registers n start price i =
@@ -199,8 +198,8 @@ loop-again c =
       omega arith,
       onward .0,
       length-set (loop .registers) (loop .n) (step .result) ∙ inv .2,
-      search needs,
-      search needs,
+      step .kept .1 .1 .1 .1 .1 .0 ∙ inv .3,
+      step .kept .1 .1 .1 .1 .1 .1 .0 ∙ inv .4,
       omega (arith, inv .5, price .ensures .1),
       onward .1,
       inv .7 ∙ ap (λ (k : ℕ). paid (declared block) (loop .price) (readRecords k (drop (loop .start) (start .args .bytes .now)))) one ∙ onward .2,
