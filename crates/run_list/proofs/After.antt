@@ -25,7 +25,8 @@ use Rattle.instructions.specs.Next.{behind}
 use Rattle.card.specs.declared.Register.{Register}
 use Rattle.card.specs.Registers.{held}
 use Rattle.card.specs.Step.{writes}
-use Rattle.run_list.specs.Runs.{countsOf, paid, left, obeyed}
+use Rattle.lists.specs.Whole.{allowedOf}
+use Rattle.run_list.specs.Runs.{countsOf, paid, left}
 use Rattle.run_list.proofs.Turns.{map-append, length-counts}
 
 -- a register more, or none
@@ -105,23 +106,23 @@ no-way : {A : Type 0} → false ≡ true → A
 no-way e = let z : _≡_ {A = ℕ} 0 1 = cc in absurd (omega arith)
 
 module _ (b : Block) (written : List ℕ) (j : Meaning) where
-  pub one-allowed : (rest : Option (List Meaning)) → obeyed b written (afterOne j rest) ≡ true → isAllowed b written j ≡ true
+  pub one-allowed : (rest : Option (List Meaning)) → allowedOf b written (afterOne j rest) ≡ true → isAllowed b written j ≡ true
   unfolding allowed
   one-allowed none e = no-way e
   one-allowed (some list) e = and-left _ _ e
 
-  pub rest-allowed : (rest : Option (List Meaning)) → obeyed b written (afterOne j rest) ≡ true → obeyed b (writtenAfter written j) rest ≡ true
+  pub rest-allowed : (rest : Option (List Meaning)) → allowedOf b written (afterOne j rest) ≡ true → allowedOf b (writtenAfter written j) rest ≡ true
   unfolding allowed
   rest-allowed none e = e
   rest-allowed (some list) e = and-right (isAllowed b written j) _ e
 
-  pub one-paid : (price : ℕ) (rest : Option (List Meaning)) → obeyed b written (afterOne j rest) ≡ true
+  pub one-paid : (price : ℕ) (rest : Option (List Meaning)) → allowedOf b written (afterOne j rest) ≡ true
       → paid b price (afterOne j rest) ≡ paid b (price + instructionPrice (b .statements) j) rest
   unfolding listPrice
   one-paid price none e = no-way e
   one-paid price (some list) e = omega arith
 
-  pub one-left : (c : Card) (rest : Option (List Meaning)) → obeyed b written (afterOne j rest) ≡ true
+  pub one-left : (c : Card) (rest : Option (List Meaning)) → allowedOf b written (afterOne j rest) ≡ true
       → left b c (afterOne j rest) ≡ left b (runInstruction b j c) rest
   one-left c none e = no-way e
   one-left c (some list) e = refl
@@ -131,12 +132,12 @@ pub record Read (x : Option Meaning) : Type 0 where
   pub instruction : Meaning
   pub is : x ≡ some instruction
 
-pub is-read : (b : Block) (written : List ℕ) (x : Option Meaning) (rest : Option (List Meaning)) → obeyed b written (behind x rest) ≡ true → Read x
+pub is-read : (b : Block) (written : List ℕ) (x : Option Meaning) (rest : Option (List Meaning)) → allowedOf b written (behind x rest) ≡ true → Read x
 is-read b written none rest e = no-way e
 is-read b written (some j) rest e = record { instruction = j; is = refl }
 
 -- no record is left
-pub none-left : (b : Block) (written : List ℕ) (price : ℕ) (c : Card) (bytes : List ℕ) → obeyed b written (readRecords 0 bytes) ≡ true
+pub none-left : (b : Block) (written : List ℕ) (price : ℕ) (c : Card) (bytes : List ℕ) → allowedOf b written (readRecords 0 bytes) ≡ true
     → (paid b price (readRecords 0 bytes) ≡ price) × (left b c (readRecords 0 bytes) ≡ c .contents)
 unfolding readRecords listPrice
 none-left b written price c [] e = (omega arith, refl)

@@ -21,14 +21,15 @@ use Rattle.rules.specs.Price.{priceOf}
 use Rattle.card.specs.declared.Register.{Register}
 use Rattle.card.specs.Registers.{held}
 use Rattle.card.specs.Step.{writes, lanesAfter, contentsAfter}
-use Rattle.run_list.specs.Runs.{statementOf, firstOf, secondOf, registerAt, statementAt, cardOf, countsOf, paid, left, obeyed}
+use Rattle.lists.specs.Whole.{allowedOf}
+use Rattle.run_list.specs.Runs.{statementOf, firstOf, secondOf, registerAt, statementAt, cardOf, countsOf, paid, left}
 use Rattle.run_list.proofs.Turns.{turn, priced}
 use Rattle.run_list.proofs.Loads.{load-fits}
 use Rattle.run_list.proofs.After.{stored, stays-small, counted, one-allowed, rest-allowed, one-paid, one-left, Read, is-read}
 
 module _ (b : Block) (slots : List Statement) (count : ℕ) (are : b .statements ≡ take count slots) (room : length slots ≡ 64)
     (registers : List Register) (n : ℕ) (small : n ≤ 96) (sized : length registers ≡ 97) (variables cells : List ℕ)
-    (bytes : List ℕ) (start k : ℕ) (ok : obeyed b (countsOf registers n) (readRecords (suc k) (drop start bytes)) ≡ true)
+    (bytes : List ℕ) (start k : ℕ) (ok : allowedOf b (countsOf registers n) (readRecords (suc k) (drop start bytes)) ≡ true)
     (i : Instruction) (e : meant i ≡ instructionAt bytes start)
     (w : Register) (current : w .current ≡ writes i)
     (lanes : held w ≡ lanesAfter (b .lengths) (lent variables cells) (held (registerAt registers (firstOf i))) (held (registerAt registers (secondOf i))) i)
@@ -52,8 +53,8 @@ module _ (b : Block) (slots : List Statement) (count : ℕ) (are : b .statements
   split : readRecords (suc k) (drop start bytes) ≡ afterOne j rest
   split = records-at bytes start k ∙ ap (λ (x : Option Meaning). behind x rest) (read .is)
 
-  ok-split : obeyed b (countsOf registers n) (afterOne j rest) ≡ true
-  ok-split = subst (λ (x : Option (List Meaning)). obeyed b (countsOf registers n) x ≡ true) split ok
+  ok-split : allowedOf b (countsOf registers n) (afterOne j rest) ≡ true
+  ok-split = subst (λ (x : Option (List Meaning)). allowedOf b (countsOf registers n) x ≡ true) split ok
 
   is-meant : meant i ≡ some j
   is-meant = e ∙ read .is
@@ -70,9 +71,9 @@ module _ (b : Block) (slots : List Statement) (count : ℕ) (are : b .statements
       ∙ ap₂ {C = Card} (λ m rs. record { contents = m; registers = rs }) (sym contents)
       (sym (stored registers n w (writes i) _ (omega arith) current lanes))
 
-  pub still-allowed : obeyed b (countsOf table more) rest ≡ true
+  pub still-allowed : allowedOf b (countsOf table more) rest ≡ true
   still-allowed =
-      subst (λ (written : List ℕ). obeyed b written rest ≡ true)
+      subst (λ (written : List ℕ). allowedOf b written rest ≡ true)
       (counted b j (cardOf registers n (lent variables cells)) ok-one ∙ ap (λ (c : Card). map length (c .registers)) same-card)
       (rest-allowed b (countsOf registers n) j rest ok-split)
 
@@ -91,7 +92,7 @@ module _ (b : Block) (slots : List Statement) (count : ℕ) (are : b .statements
 -- the same, as the loop has it: the array lengths, the statement, the registers and the next place by their values
 pub onward : (b : Block) (slots : List Statement) (count : ℕ) → b .statements ≡ take count slots → length slots ≡ 64
     → (registers : List Register) (n : ℕ) → n ≤ 96 → length registers ≡ 97 → (variables cells bytes : List ℕ) (start k : ℕ)
-    → obeyed b (countsOf registers n) (readRecords (suc k) (drop start bytes)) ≡ true
+    → allowedOf b (countsOf registers n) (readRecords (suc k) (drop start bytes)) ≡ true
     → (i : Instruction) → meant i ≡ instructionAt bytes start
     → (lengths : List ℕ) (s : Statement) (x y w : Register) (after : Contents)
     → lengths ≡ b .lengths → s ≡ statementAt slots (statementOf i) → x ≡ registerAt registers (firstOf i) → y ≡ registerAt registers (secondOf i)
@@ -100,7 +101,7 @@ pub onward : (b : Block) (slots : List Statement) (count : ℕ) → b .statement
     → after ≡ contentsAfter lengths s (held x) i (lent variables cells)
     → (one end p price : ℕ) → one ≡ pick (w .current) 1 0 → end ≡ endAt bytes start → p ≡ priceOf i s
     → (n + one ≤ 96)
-    × (obeyed b (countsOf (set registers n w) (n + one)) (readRecords k (drop end bytes)) ≡ true)
+    × (allowedOf b (countsOf (set registers n w) (n + one)) (readRecords k (drop end bytes)) ≡ true)
     × (paid b price (readRecords (suc k) (drop start bytes)) ≡ paid b (price + p) (readRecords k (drop end bytes)))
     × (left b (cardOf registers n (lent variables cells)) (readRecords (suc k) (drop start bytes))
     ≡ left b (cardOf (set registers n w) (n + one) after) (readRecords k (drop end bytes)))

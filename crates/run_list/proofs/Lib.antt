@@ -2,3 +2,4 @@ pub mod Turns
 pub mod Loads
 pub mod After
 pub mod Again
+pub mod Calls

@@ -11,8 +11,9 @@ use Rattle.basics.specs.Lists.{each}
 use Rattle.meaning.specs.declared.Statement.{Statement}
 use Rattle.meaning.specs.Block.{Block, blank}
 use Rattle.meaning.specs.Machine.{Contents}
-use Rattle.meaning.specs.List.{Instruction as Meaning, listPrice, allowed}
+use Rattle.meaning.specs.List.{Instruction as Meaning, listPrice}
 use Rattle.meaning.specs.Card.{Card, runInstruction}
+use Rattle.meaning.specs.Calls.{Ran}
 use Rattle.instructions.specs.declared.Instruction.{Instruction}
 use Rattle.instructions.specs.declared.Instruction.the-variants.{Broken, S, L, C, G, Copy, O, W, D, X}
 use Rattle.card.specs.declared.Register.{Register}
@@ -87,7 +88,6 @@ abbrev pub left : Block → Card → Option (List Meaning) → Contents
 left b c none = c .contents
 left b c (some list) = each (runInstruction b) list c .contents
 
--- what is left reads, and is allowed behind the registers written so far
-abbrev pub obeyed : Block → List ℕ → Option (List Meaning) → Bool
-obeyed b written none = false
-obeyed b written (some list) = allowed b written list
+-- the status, the price and the contents afterwards, as document 01's answer
+abbrev pub answered : ℕ → ℕ → Contents → Ran
+answered number price m = record { status = number; price = price; contents = m }

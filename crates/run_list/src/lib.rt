@@ -5,11 +5,16 @@ ghost use Prim.Native.Nat.{_<_, _≤_};
 ghost use Rattle.basics.specs.Choice.{pick};
 ghost use mathlib.Core.Bool.{true};
 ghost use mathlib.Core.List.{[]};
+ghost use lib.Dec.{eqb};
+ghost use mathlib.Core.Bool.{_&&_};
 ghost use lib.ListN.{drop};
+ghost use Rattle.meaning.specs.Machine.{cellAt};
+ghost use Rattle.meaning.specs.Calls.{runListCall};
 ghost use Rattle.meaning.specs.Block.{declared};
 ghost use Rattle.meaning.specs.List.{readRecords};
 ghost use Rattle.memory.specs.Lent.{lent};
-ghost use Rattle.run_list.specs.Runs.{statementOf, firstOf, secondOf, slotOf, cardOf, paid, left, obeyed};
+ghost use Rattle.lists.specs.Whole.{allowedOf};
+ghost use Rattle.run_list.specs.Runs.{statementOf, firstOf, secondOf, slotOf, cardOf, paid, left, answered};
 use card::Register;
 use meaning::Block;
 use instructions::Instruction;
@@ -116,7 +121,7 @@ fn run_records(
     cells: &mut [u32],
 ) -> usize
     requires { ⌜ (now lengths ≡ declared block .lengths) × (count ≤ 255)
-        × (obeyed (declared block) [] (readRecords count (drop 4 (now bytes))) ≡ true) ⌝ }
+        × (allowedOf (declared block) [] (readRecords count (drop 4 (now bytes))) ≡ true) ⌝ }
     ensures { λ r. ⌜ (r ≡ paid (declared block) 0 (readRecords count (drop 4 (now (bytes .entry)))))
         × (lent (now (variables .exit)) (now (cells .exit))
             ≡ left (declared block) (cardOf [] 0 (lent (now (variables .entry)) (now (cells .entry)))) (readRecords count (drop 4 (now (bytes .entry))))) ⌝ }
@@ -144,4 +149,51 @@ fn run_records(
         i += 1;
     }
     price
+}
+
+// 6: "variables or cells lent are not exactly as many as declared"
+fn sizes_fit(variables: u8, arrays: u8, lengths: &[u16], lent_variables: usize, lent_cells: usize) -> bool
+    ensures { λ r. ⌜ r ≡ (eqb «lent_variables» variables && eqb «lent_cells» (cellAt (now (lengths .entry)) arrays 0)) ⌝ }
+{
+    if lent_variables == wide(variables) {
+        return lent_cells == memory::cell_at(lengths, arrays, 0);
+    }
+    false
+}
+
+// What running returns: "the price paid", and zero beside a refusal.
+pub struct Ran {
+    pub status: u8,
+    pub price: usize,
+}
+
+// "block, 6, then, for a list, all of 8, then 9"; nothing lent is written before all of it is tested.
+pub fn run_list(block_bytes: &[u8], bytes: &[u8], variables: &mut [u32], cells: &mut [u32]) -> Ran
+    ensures { λ r. ⌜ answered (r .status) (r .price) (lent (now (variables .exit)) (now (cells .exit)))
+        ≡ runListCall (now («block_bytes» .entry)) (now (bytes .entry)) (lent (now (variables .entry)) (now (cells .entry))) ⌝ }
+{
+    let read = reader::read_block(block_bytes);
+    let refusal = read.status;
+    if refusal != 0 {
+        return Ran {
+            status: refusal,
+            price: 0,
+        };
+    }
+    let block = read.block;
+    let lengths = block.lengths;
+    let arrays = run_block::at_most(block.arrays, 8);
+    if sizes_fit(block.variables, block.arrays, &lengths[..arrays], variables.len(), cells.len()) {
+        let fault = lists::list_status(bytes, block);
+        if fault != 0 {
+            return Ran {
+                status: fault,
+                price: 0,
+            };
+        }
+        let count = wide(instructions::field(bytes, 3));
+        let price = run_records(block, count, bytes, &lengths[..arrays], variables, cells);
+        return Ran { status: 0, price };
+    }
+    Ran { status: 6, price: 0 }
 }

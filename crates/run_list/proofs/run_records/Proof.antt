@@ -11,7 +11,8 @@ use Rattle.basics.proofs.Counting.{more, none-left}
 use Rattle.meaning.specs.Block.{declared}
 use Rattle.meaning.specs.List.{readRecords}
 use Rattle.memory.specs.Lent.{lent}
-use Rattle.run_list.specs.Runs.{slotOf, missing, cardOf, countsOf, paid, left, obeyed}
+use Rattle.lists.specs.Whole.{allowedOf}
+use Rattle.run_list.specs.Runs.{slotOf, missing, cardOf, countsOf, paid, left}
 use Rattle.meaning.specs.declared.Statement.{Statement}
 use Rattle.meaning.specs.Block.{blank}
 use Rattle.card.specs.declared.Register.{Register}
@@ -42,7 +43,7 @@ registerIn registers slot = getD registers slot missing
 abbrev Inv-loop : tie.InvT-loop
 Inv-loop count bytes lengths variables₀ cells₀ block registers₀ n₀ start₀ price₀ i₀ variables cells registers n start price i =
     (i ≤ count) × (n ≤ 96) × (length registers ≡ 97) × (length variables ≡ length variables₀) × (length cells ≡ length cells₀) × (price ≤ 8 * i)
-    × (obeyed (declared block) (countsOf registers n) (readRecords (count - i) (drop start bytes)) ≡ true)
+    × (allowedOf (declared block) (countsOf registers n) (readRecords (count - i) (drop start bytes)) ≡ true)
     × (paid (declared block) 0 (readRecords count (drop 4 bytes)) ≡ paid (declared block) price (readRecords (count - i) (drop start bytes)))
     × (left (declared block) (cardOf [] 0 (lent variables₀ cells₀)) (readRecords count (drop 4 bytes))
     ≡ left (declared block) (cardOf registers n (lent variables cells)) (readRecords (count - i) (drop start bytes)))
@@ -188,7 +189,7 @@ loop-again c =
     let onward =
         Again.onward (declared block) (block .statements) (block .count) refl sized (loop .registers) (loop .n) (inv .1) (inv .2) (loop .variables) (loop .cells)
         (start .args .bytes .now) (loop .start) left-over
-        (subst (λ (k : ℕ). obeyed (declared block) (countsOf (loop .registers) (loop .n)) (readRecords k (drop (loop .start) (start .args .bytes .now))) ≡ true) one (inv .6))
+        (subst (λ (k : ℕ). allowedOf (declared block) (countsOf (loop .registers) (loop .n)) (readRecords k (drop (loop .start) (start .args .bytes .now))) ≡ true) one (inv .6))
         (next .result .instruction) (next .ensures .0) (start .args .lengths .now) _ _ _ (step .result) _ (start .pre .0)
         (ap (statementIn (block .statements)) named) (ap (registerIn (loop .registers)) first) (ap (registerIn (loop .registers)) second)
         (step .ensures .0) (step .ensures .1) (step .ensures .2) (c .before .registers-more .result) (next .result .end) (price .result) (loop .price)
@@ -230,7 +231,7 @@ returns c =
     let card = cardOf (loop .registers) (loop .n) (lent (loop .variables) (loop .cells)) in
     let end =
         ended (declared block) (countsOf (loop .registers) (loop .n)) (loop .price) card behind
-        (subst (λ (k : ℕ). obeyed (declared block) (countsOf (loop .registers) (loop .n)) (readRecords k behind) ≡ true) none (inv .6))
+        (subst (λ (k : ℕ). allowedOf (declared block) (countsOf (loop .registers) (loop .n)) (readRecords k behind) ≡ true) none (inv .6))
     in
     (
       sym (inv .7 ∙ ap (λ (k : ℕ). paid (declared block) (loop .price) (readRecords k behind)) none ∙ end .0),

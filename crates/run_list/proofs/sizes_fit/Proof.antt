@@ -1,0 +1,34 @@
+use borrow.Author.Tests.{le-ltb, lt-ltb, le-leb, lt-leb, eq-eqb, ne-eqb}
+use borrow.Author.Needs.{needs}
+use Rattle.run_list.proofs.sizes_fit.Statement.{statement}
+use Rattle.run_list.proofs.sizes_fit.Tie as tie
+use Rattle.run_list.proofs.sizes_fit.Reads as reads
+use Rattle.run_list.proofs.sizes_fit.Lts as lts
+use Rattle.memory.proofs.cell_at.Reads as cell-at-reads
+use Rattle.run_list.proofs.wide.Reads as wide-reads
+
+-- src/lib.rt:158:26
+wide-requires : tie.Need-wide-requires
+wide-requires c κs = search needs
+
+-- src/lib.rt:159:30
+cell-at-requires : tie.Need-cell-at-requires
+cell-at-requires c κs = search needs
+
+-- src/lib.rt:159:9
+returns : tie.Need-returns
+returns c =
+    simp
+    (c .cell-at .ensures,
+    eq-eqb _ _ (c .before .if1 .taken),
+    ← c .before .before .wide .ensures)
+
+-- src/lib.rt:155:1
+returns-2 : tie.Need-returns-2
+returns-2 c =
+    simp
+    (ne-eqb _ _ (c .if1 .left),
+    ← c .before .wide .ensures)
+
+pub sizes-fit-spec : {M : Type 1} → statement M
+sizes-fit-spec = tie.close (tie.spec wide-requires cell-at-requires returns returns-2)
