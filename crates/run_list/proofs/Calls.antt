@@ -4,14 +4,14 @@ use mathlib.Core.Path.{_≡_, refl, sym, ap, ap₂, subst, _∙_}
 use mathlib.Core.Bool.{Bool, true, false, _&&_}
 use mathlib.Core.Option.{Option, none, some}
 use mathlib.Core.List.{List, []}
-use Prim.Native.Nat.{ℕ, _+_, _≤_}
+use Prim.Native.Nat.{ℕ, _+_, _-_, _≤_, _<_, min}
 use native.Mathlib.Nat.{zero-add, add-zero}
 use native.Mathlib.Omega.{arith}
 use lib.Dec.{eqb}
-use lib.ListN.{length, take, drop}
-use lib.Seq.{take-take}
+use lib.ListN.{length, take, drop, replicate, length-append, length-replicate}
+use lib.Seq.{take-take, take-all}
 use Rattle.basics.specs.Lists.{sum}
-use Rattle.basics.proofs.Tests.{passes-or-fails}
+use Rattle.basics.proofs.Tests.{passes-or-fails, below-or-not}
 use mathlib.Core.Logic.{⊎-elim}
 use Rattle.meaning.specs.declared.Block.{Block as Slots}
 use Rattle.meaning.specs.Numbers.{Answer, refused, done, demand, andThen}
@@ -21,7 +21,8 @@ use Rattle.meaning.specs.Machine.{Contents, rightSize, cellAt}
 use Rattle.meaning.specs.List.{Instruction, field, listPrice, readRecords, readList, allowed}
 use Rattle.meaning.specs.Card.{runList}
 use Rattle.meaning.specs.Calls.{BlockRead, blockRead, readBlockCall, Ran, ran, sized, listOf, runListCall}
-use Rattle.theorems.proofs.Readable.{refused-number, declared-in-memory}
+use Rattle.memory.specs.Lent.{lent}
+use Rattle.theorems.proofs.Readable.{refused-number, done-readable, declared-in-memory}
 use Rattle.lists.specs.Whole.{headerFits, allowedOf, status, listStatus}
 use Rattle.lists.proofs.Header.{header-read, header-broken}
 use Rattle.run_list.specs.Runs.{cardOf, paid, left, answered}
@@ -130,3 +131,29 @@ list-records b bytes ok =
 -- the cells of all arrays
 pub all-cells : (arrays : ℕ) (lengths : List ℕ) → cellAt (take arrays lengths) arrays 0 ≡ sum (take arrays lengths)
 all-cells arrays lengths = rw (add-zero, take-take arrays arrays lengths (omega arith))
+
+-- a block in memory has eight slots for its lengths
+eight-by : (blockBytes : List ℕ) (x : Answer Block) → readBlock blockBytes ≡ x → length (blockRead x .block .lengths) ≡ 8
+eight-by blockBytes (refused n) is = refl
+eight-by blockBytes (done b) is =
+    omega (arith, length-append (b .lengths) (replicate (8 - length (b .lengths)) 0), length-replicate (8 - length (b .lengths)) 0, done-readable blockBytes b is .arrays)
+
+pub eight-slots : (blockBytes : List ℕ) (number : ℕ) (slots : Slots) → record { status = number; block = slots } ≡ readBlockCall blockBytes → length (slots .lengths) ≡ 8
+unfolding readBlockCall
+eight-slots blockBytes number slots e = ap (λ (r : BlockRead). length (r .block .lengths)) e ∙ eight-by blockBytes (readBlock blockBytes) refl
+
+pub first-slots : (k : ℕ) (l : List ℕ) → length l ≡ 8 → take (min k 8) l ≡ take k l
+first-slots k l e =
+    ⊎-elim
+    (λ (low : k < 8). let same : min k 8 ≡ k = omega arith in ap (λ (n : ℕ). take n l) same)
+    (λ (high : 8 ≤ k). let same : min k 8 ≡ 8 = omega arith in ap (λ (n : ℕ). take n l) same ∙ take-all 8 l (omega arith) ∙ sym (take-all k l (omega arith)))
+    (below-or-not k 8)
+
+-- the test of 6, as the code makes it
+pub size-test : (slots : Slots) (variables cells : List ℕ) (n : ℕ) → n ≡ min (slots .arrays) 8 → length (slots .lengths) ≡ 8
+    → rightSize (declared slots) (lent variables cells)
+    ≡ (eqb (length variables) (slots .variables) && eqb (length cells) (cellAt (take n (slots .lengths)) (slots .arrays) 0))
+size-test slots variables cells n e eight =
+    let whole : take n (slots .lengths) ≡ take (slots .arrays) (slots .lengths) = ap (λ (k : ℕ). take k (slots .lengths)) e ∙ first-slots (slots .arrays) (slots .lengths) eight in
+    ap (λ (k : ℕ). eqb (length variables) (slots .variables) && eqb (length cells) k)
+    (sym (ap (λ (l : List ℕ). cellAt l (slots .arrays) 0) whole ∙ all-cells (slots .arrays) (slots .lengths)))

@@ -1,3 +1,5 @@
+-- `run_list::sizes_fit` meets its contract.
+use mathlib.Core.Path.{_≡_, sym, _∙_}
 use borrow.Author.Tests.{le-ltb, lt-ltb, le-leb, lt-leb, eq-eqb, ne-eqb}
 use borrow.Author.Needs.{needs}
 use Rattle.run_list.proofs.sizes_fit.Statement.{statement}
@@ -18,17 +20,12 @@ cell-at-requires c κs = search needs
 -- src/lib.rt:159:9
 returns : tie.Need-returns
 returns c =
-    simp
-    (c .cell-at .ensures,
-    eq-eqb _ _ (c .before .if1 .taken),
-    ← c .before .before .wide .ensures)
+    rw (eq-eqb (c .before .before .before .before .args .lent-variables) (c .before .before .before .before .args .variables) (c .before .if1 .taken ∙ c .before .before .wide .ensures .0), c .cell-at .ensures)
 
 -- src/lib.rt:155:1
 returns-2 : tie.Need-returns-2
 returns-2 c =
-    simp
-    (ne-eqb _ _ (c .if1 .left),
-    ← c .before .wide .ensures)
+    rw (ne-eqb (c .before .before .before .args .lent-variables) (c .before .before .before .args .variables) (λ (e : c .before .before .before .args .lent-variables ≡ c .before .before .before .args .variables). c .if1 .left (e ∙ sym (c .before .wide .ensures .0))))
 
 pub sizes-fit-spec : {M : Type 1} → statement M
 sizes-fit-spec = tie.close (tie.spec wide-requires cell-at-requires returns returns-2)
