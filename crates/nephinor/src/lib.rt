@@ -3,6 +3,7 @@
 
 mod exports;
 mod packed;
+mod put;
 
 use meaning::Block;
 ghost use mathlib.Core.Path.{_≡_};

@@ -3,6 +3,13 @@
 
 mod exported {
     extern "C" {
+        pub fn nephinor_read_block(
+            bytes: *const u8,
+            bytes_length: usize,
+            table: *mut u32,
+            table_length: usize,
+        ) -> u64;
+
         pub fn nephinor_run_block(
             bytes: *const u8,
             bytes_length: usize,
@@ -34,6 +41,18 @@ impl Answer {
             list_price: (number >> 40) as u16,
         }
     }
+}
+
+/// How many numbers a block in memory takes as a table.
+pub const TABLE: usize = 652;
+
+/// Reads a block into a table of numbers: status, and how many numbers that takes.
+pub fn read_block(bytes: &[u8], table: &mut [u32]) -> Answer {
+    // SAFETY: each pointer stands with the length of its own slice, and the table is borrowed for the
+    // call alone. The library keeps neither.
+    Answer::unpacked(unsafe {
+        exported::nephinor_read_block(bytes.as_ptr(), bytes.len(), table.as_mut_ptr(), table.len())
+    })
 }
 
 /// Runs a block on what is lent: status and price paid.

@@ -3,5 +3,6 @@
 
 mod blocks;
 mod lent;
+mod reading;
 mod running;
 mod vectors;
