@@ -1,0 +1,112 @@
+// "Combination": chains of pairs, cut into units.
+
+use units::Unit;
+
+// "pairwise independent", of four
+fn pairwise(reached: &[u64], a: usize, b: usize, c: usize, d: usize) -> bool {
+    if reach::independent(reached, a, b) {
+        if reach::independent(reached, a, c) {
+            if reach::independent(reached, a, d) {
+                if reach::independent(reached, b, c) {
+                    if reach::independent(reached, b, d) {
+                        return reach::independent(reached, c, d);
+                    }
+                }
+            }
+        }
+    }
+    false
+}
+
+// "the next four statements if at least four remain and these are pairwise independent, else the
+// next two if at least two remain, else one single"
+fn next_unit(reached: &[u64], next: &[u8], a: usize) -> Unit {
+    let b = rows::number_at(next, a);
+    if b == rows::NONE {
+        return units::single(a);
+    }
+    let c = rows::number_at(next, b);
+    let d = rows::number_at(next, c);
+    if d == rows::NONE {
+        return units::pack_of_two(a, b);
+    }
+    if pairwise(reached, a, b, c, d) {
+        return Unit {
+            lanes: [a as u8, b as u8, c as u8, d as u8],
+            count: 4,
+        };
+    }
+    units::pack_of_two(a, b)
+}
+
+fn last_lane(unit: Unit) -> usize {
+    if unit.count == 4 {
+        return unit.lanes[3] as usize;
+    }
+    if unit.count == 2 {
+        return unit.lanes[1] as usize;
+    }
+    unit.lanes[0] as usize
+}
+
+// "A chain is cut from its left end." Back comes the set of all units so far, by lowest number.
+fn cut(
+    n: usize,
+    reached: &[u64],
+    direct: &[u64],
+    next: &[u8],
+    start: usize,
+    units: &mut [u64],
+    needs: &mut [u64],
+    before: u64,
+) -> u64 {
+    let mut waiting = before;
+    let mut at = start;
+    let mut i: usize = 0;
+    while i < n {
+        if at == rows::NONE {
+            return waiting;
+        }
+        let unit = next_unit(reached, next, at);
+        waiting = waiting | units::wait(direct, units, needs, unit);
+        at = rows::number_at(next, last_lane(unit));
+        i += 1;
+    }
+    waiting
+}
+
+// A longest chain begins at a statement that is right in no pair.
+fn cut_from(
+    n: usize,
+    reached: &[u64],
+    direct: &[u64],
+    next: &[u8],
+    rights: u64,
+    s: usize,
+    units: &mut [u64],
+    needs: &mut [u64],
+    before: u64,
+) -> u64 {
+    if rows::has(rights, s) {
+        return before;
+    }
+    cut(n, reached, direct, next, s, units, needs, before)
+}
+
+pub fn combine(
+    n: usize,
+    reached: [u64; 64],
+    direct: &[u64],
+    next: &[u8],
+    rights: u64,
+    units: &mut [u64],
+    needs: &mut [u64],
+) -> u64 {
+    let mut waiting: u64 = 0;
+    let mut s: usize = 0;
+    while s < n {
+        waiting = cut_from(n, &reached, direct, next, rights, s, units, needs, waiting);
+        s += 1;
+    }
+    waiting
+}

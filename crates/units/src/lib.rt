@@ -1,0 +1,86 @@
+// Units: packs and single statements, by value and as words in tables.
+//
+// A word has a byte for each lane, NONE where there is none, and their count above these. Units that
+// wait stand by their lowest statement number, and `needs` has for each of them what it waits for.
+
+// "A unit is a pack or a single statement": its statements in the order of their lanes.
+pub struct Unit {
+    pub lanes: [u8; 4],
+    pub count: u8,
+}
+
+pub fn unit_at(units: &[u64], at: usize) -> Unit {
+    let word = rows::word_at(units, at);
+    let lanes = [
+        rows::low_byte(word),
+        rows::low_byte(word / 256),
+        rows::low_byte(word / 65536),
+        rows::low_byte(word / 16777216),
+    ];
+    Unit {
+        lanes,
+        count: rows::low_byte(word / 4294967296),
+    }
+}
+
+pub fn set_unit(units: &mut [u64], at: usize, unit: Unit) {
+    let first = unit.lanes[0] as u64 + 256 * unit.lanes[1] as u64;
+    let second = unit.lanes[2] as u64 + 256 * unit.lanes[3] as u64;
+    let word = first + 65536 * second + 4294967296 * unit.count as u64;
+    rows::set_word(units, at, word);
+}
+
+pub fn single(s: usize) -> Unit {
+    Unit {
+        lanes: [s as u8, 64, 64, 64],
+        count: 1,
+    }
+}
+
+pub fn pack_of_two(s: usize, t: usize) -> Unit {
+    Unit {
+        lanes: [s as u8, t as u8, 64, 64],
+        count: 2,
+    }
+}
+
+fn lower(s: usize, t: usize) -> usize {
+    if s < t { s } else { t }
+}
+
+// "A unit goes by its lowest statement number." A lane that is not there has a higher one.
+fn lowest(unit: Unit) -> usize {
+    let first = lower(unit.lanes[0] as usize, unit.lanes[1] as usize);
+    let second = lower(unit.lanes[2] as usize, unit.lanes[3] as usize);
+    lower(first, second)
+}
+
+// Lanes as a set: what is not there is not in it.
+fn member(lane: u8) -> u64 {
+    if lane < 64 {
+        rows::only(lane as usize)
+    } else {
+        0
+    }
+}
+
+pub fn members(unit: Unit) -> u64 {
+    member(unit.lanes[0]) | member(unit.lanes[1]) | member(unit.lanes[2]) | member(unit.lanes[3])
+}
+
+// What a unit's statements depend on.
+fn needed(direct: &[u64], unit: Unit) -> u64 {
+    let first = rows::word_at(direct, unit.lanes[0] as usize)
+        | rows::word_at(direct, unit.lanes[1] as usize);
+    let second = rows::word_at(direct, unit.lanes[2] as usize)
+        | rows::word_at(direct, unit.lanes[3] as usize);
+    first | second
+}
+
+// The unit waits from now on.
+pub fn wait(direct: &[u64], units: &mut [u64], needs: &mut [u64], unit: Unit) -> u64 {
+    let low = lowest(unit);
+    set_unit(units, low, unit);
+    rows::set_word(needs, low, needed(direct, unit));
+    member(low as u8)
+}
