@@ -1,2 +1,3 @@
 pub mod Words
 pub mod Waiting
+pub mod Lanes

@@ -3,13 +3,21 @@
 // A word has a byte for each lane, NONE where there is none, and their count above these. Units that
 // wait stand by their lowest statement number, and `needs` has for each of them what it waits for.
 
+ghost use mathlib.Core.Path.{_≡_};
+ghost use mathlib.Core.List.{[], _∷_};
+ghost use Prim.Native.Nat.{_<_};
+ghost use lib.ListN.{getD, set as replaced};
+ghost use Rattle.units.specs.Lanes.{lanesOf, lanesWord, wordLanes, lowerLane, lowestLane, memberLane, memberLanes, neededLanes};
+
 // "A unit is a pack or a single statement": its statements in the order of their lanes.
 pub struct Unit {
     pub lanes: [u8; 4],
     pub count: u8,
 }
 
-pub fn unit_at(units: &[u64], at: usize) -> Unit {
+pub fn unit_at(units: &[u64], at: usize) -> Unit
+    ensures { λ r. ⌜ r ≡ wordLanes (getD (now (units .entry)) at 0) ⌝ }
+{
     let word = rows::word_at(units, at);
     let lanes = [
         rows::low_byte(word),
@@ -23,40 +31,54 @@ pub fn unit_at(units: &[u64], at: usize) -> Unit {
     }
 }
 
-pub fn set_unit(units: &mut [u64], at: usize, unit: Unit) {
+pub fn set_unit(units: &mut [u64], at: usize, unit: Unit)
+    ensures { λ r. ⌜ now (units .exit) ≡ replaced (now (units .entry)) at (lanesWord unit) ⌝ }
+{
     let first = unit.lanes[0] as u64 + 256 * unit.lanes[1] as u64;
     let second = unit.lanes[2] as u64 + 256 * unit.lanes[3] as u64;
     let word = first + 65536 * second + 4294967296 * unit.count as u64;
     rows::set_word(units, at, word);
 }
 
-pub fn single(s: usize) -> Unit {
+pub fn single(s: usize) -> Unit
+    requires { ⌜ s < 256 ⌝ }
+    ensures { λ r. ⌜ r ≡ lanesOf (s ∷ []) ⌝ }
+{
     Unit {
         lanes: [s as u8, 64, 64, 64],
         count: 1,
     }
 }
 
-pub fn pack_of_two(s: usize, t: usize) -> Unit {
+pub fn pack_of_two(s: usize, t: usize) -> Unit
+    requires { ⌜ (s < 256) × (t < 256) ⌝ }
+    ensures { λ r. ⌜ r ≡ lanesOf (s ∷ t ∷ []) ⌝ }
+{
     Unit {
         lanes: [s as u8, t as u8, 64, 64],
         count: 2,
     }
 }
 
-fn lower(s: usize, t: usize) -> usize {
+fn lower(s: usize, t: usize) -> usize
+    ensures { λ r. ⌜ r ≡ lowerLane s t ⌝ }
+{
     if s < t { s } else { t }
 }
 
 // "A unit goes by its lowest statement number." A lane that is not there has a higher one.
-fn lowest(unit: Unit) -> usize {
+fn lowest(unit: Unit) -> usize
+    ensures { λ r. ⌜ (r ≡ lowestLane unit) × (r < 256) ⌝ }
+{
     let first = lower(unit.lanes[0] as usize, unit.lanes[1] as usize);
     let second = lower(unit.lanes[2] as usize, unit.lanes[3] as usize);
     lower(first, second)
 }
 
 // Lanes as a set: what is not there is not in it.
-fn member(lane: u8) -> u64 {
+fn member(lane: u8) -> u64
+    ensures { λ r. ⌜ r ≡ memberLane lane ⌝ }
+{
     if lane < 64 {
         rows::only(lane as usize)
     } else {
@@ -64,12 +86,16 @@ fn member(lane: u8) -> u64 {
     }
 }
 
-pub fn members(unit: Unit) -> u64 {
+pub fn members(unit: Unit) -> u64
+    ensures { λ r. ⌜ r ≡ memberLanes unit ⌝ }
+{
     member(unit.lanes[0]) | member(unit.lanes[1]) | member(unit.lanes[2]) | member(unit.lanes[3])
 }
 
 // What a unit's statements depend on.
-fn needed(direct: &[u64], unit: Unit) -> u64 {
+fn needed(direct: &[u64], unit: Unit) -> u64
+    ensures { λ r. ⌜ r ≡ neededLanes (now (direct .entry)) unit ⌝ }
+{
     let first = rows::word_at(direct, unit.lanes[0] as usize)
         | rows::word_at(direct, unit.lanes[1] as usize);
     let second = rows::word_at(direct, unit.lanes[2] as usize)
@@ -78,7 +104,11 @@ fn needed(direct: &[u64], unit: Unit) -> u64 {
 }
 
 // The unit waits from now on.
-pub fn wait(direct: &[u64], units: &mut [u64], needs: &mut [u64], unit: Unit) -> u64 {
+pub fn wait(direct: &[u64], units: &mut [u64], needs: &mut [u64], unit: Unit) -> u64
+    ensures { λ r. ⌜ (now (units .exit) ≡ replaced (now (units .entry)) (lowestLane unit) (lanesWord unit))
+        × ((now (needs .exit) ≡ replaced (now (needs .entry)) (lowestLane unit) (neededLanes (now (direct .entry)) unit))
+        × (r ≡ memberLane (lowestLane unit))) ⌝ }
+{
     let low = lowest(unit);
     set_unit(units, low, unit);
     rows::set_word(needs, low, needed(direct, unit));
