@@ -5,7 +5,7 @@
 
 ghost use mathlib.Core.Path.{_≡_};
 ghost use mathlib.Core.List.{[]};
-ghost use Prim.Native.Nat.{_≤_, _<_};
+ghost use Prim.Native.Nat.{_+_, _≤_, _<_};
 ghost use Rattle.meaning.specs.Pairs.{pair};
 ghost use Rattle.pairs.specs.Admission.{tables, admittedIn, admitTo, leadsTo, mayJoin, mayPair, firstAdmitted, neighboursOf, seedTables, seededTables};
 use meaning::Block;
@@ -93,9 +93,10 @@ pub fn is_admitted(next: &[u8], s: usize, t: usize) -> bool
 
 // "added pairs at the end"
 pub fn admit(order: &mut [u8], next: &mut [u8], admitted: Admitted, s: usize, t: usize) -> Admitted
-    requires { ⌜ (admitted .count < 64) × ((s < 64) × (t < 64)) ⌝ }
-    ensures { λ r. ⌜ tables (now (order .exit)) (now (next .exit)) (r .count) (r .rights)
-        ≡ admitTo (pair s t) (tables (now (order .entry)) (now (next .entry)) (admitted .count) (admitted .rights)) ⌝ }
+    requires { ⌜ (admitted .count ≤ 1000) × ((s < 64) × (t < 64)) ⌝ }
+    ensures { λ r. ⌜ (tables (now (order .exit)) (now (next .exit)) (r .count) (r .rights)
+        ≡ admitTo (pair s t) (tables (now (order .entry)) (now (next .entry)) (admitted .count) (admitted .rights)))
+        × (r .count ≤ admitted .count + 1) ⌝ }
 {
     rows::set_byte(order, admitted.count, s as u8);
     rows::set_byte(next, s, t as u8);
@@ -128,7 +129,8 @@ fn first_admitted(
     s: usize,
     candidates: u64,
 ) -> usize
-    ensures { λ r. ⌜ r ≡ firstAdmitted (now (facts .entry)) (now (reached .entry)) (tables [] (now (next .entry)) (admitted .count) (admitted .rights)) s candidates ⌝ }
+    ensures { λ r. ⌜ (r ≡ firstAdmitted (now (facts .entry)) (now (reached .entry)) (tables [] (now (next .entry)) (admitted .count) (admitted .rights)) s candidates)
+        × (r ≤ 64) ⌝ }
 {
     let mut rest = candidates;
     while rest != 0 {
@@ -150,9 +152,10 @@ fn seed_one(
     s: usize,
     candidates: u64,
 ) -> Admitted
-    requires { ⌜ (admitted .count < 64) × (s < 64) ⌝ }
-    ensures { λ r. ⌜ tables (now (order .exit)) (now (next .exit)) (r .count) (r .rights)
-        ≡ seedTables (now (facts .entry)) (now (reached .entry)) s candidates (tables (now (order .entry)) (now (next .entry)) (admitted .count) (admitted .rights)) ⌝ }
+    requires { ⌜ (admitted .count ≤ 1000) × (s < 64) ⌝ }
+    ensures { λ r. ⌜ (tables (now (order .exit)) (now (next .exit)) (r .count) (r .rights)
+        ≡ seedTables (now (facts .entry)) (now (reached .entry)) s candidates (tables (now (order .entry)) (now (next .entry)) (admitted .count) (admitted .rights)))
+        × (r .count ≤ admitted .count + 1) ⌝ }
 {
     let t = first_admitted(facts, reached, next, admitted, s, candidates);
     if t == rows::NONE {
@@ -174,9 +177,10 @@ pub fn seed(
     next: &mut [u8],
 ) -> Admitted
     requires { ⌜ n ≤ 64 ⌝ }
-    ensures { λ r. ⌜ tables (now (order .exit)) (now (next .exit)) (r .count) (r .rights)
+    ensures { λ r. ⌜ (tables (now (order .exit)) (now (next .exit)) (r .count) (r .rights)
         ≡ seededTables (block .statements) n (now (facts .entry)) reached (now (numbers .entry)) (now (writers .entry)) (now (lefts .entry)) (now (rights .entry))
-        (tables (now (order .entry)) (now (next .entry)) 0 0) ⌝ }
+        (tables (now (order .entry)) (now (next .entry)) 0 0))
+        × (r .count ≤ n) ⌝ }
 {
     let mut admitted = Admitted {
         count: 0,
