@@ -2,7 +2,7 @@
 // written at any index.
 
 ghost use mathlib.Core.Path.{_≡_};
-ghost use Prim.Native.Nat.{_<_, _-_, _^_, _%_};
+ghost use Prim.Native.Nat.{_<_, _≤_, _-_, _^_, _%_};
 ghost use lib.ListN.{getD, set as replaced};
 ghost use lib.Count.{trailingZeros};
 ghost use Rattle.basics.specs.Sets.{only as onlyThis, join, has as holds};
@@ -34,7 +34,7 @@ pub fn has(set: u64, i: usize) -> bool
 
 // The lowest of a set, NONE where it is empty; and the set without it.
 pub fn first(set: u64) -> usize
-    ensures { λ r. ⌜ r ≡ trailingZeros 64 set ⌝ }
+    ensures { λ r. ⌜ (r ≡ trailingZeros 64 set) × (r ≤ 64) ⌝ }
 {
     u64::trailing_zeros(set) as usize
 }
@@ -47,7 +47,7 @@ pub fn behind_first(set: u64) -> u64
 
 // The highest of a set, NONE where it is empty.
 pub fn last(set: u64) -> usize
-    ensures { λ r. ⌜ r ≡ highest set ⌝ }
+    ensures { λ r. ⌜ (r ≡ highest set) × (r ≤ 64) ⌝ }
 {
     if set == 0 {
         return NONE;
@@ -100,7 +100,7 @@ pub fn set_byte(table: &mut [u8], i: usize, value: u8)
 
 // A statement's number from a table of them, NONE past its end.
 pub fn number_at(table: &[u8], i: usize) -> usize
-    ensures { λ r. ⌜ r ≡ getD (now (table .entry)) i 64 ⌝ }
+    ensures { λ r. ⌜ (r ≡ getD (now (table .entry)) i 64) × (r < 256) ⌝ }
 {
     if i < table.len() {
         return table[i] as usize;
