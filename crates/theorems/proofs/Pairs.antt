@@ -1,5 +1,5 @@
 -- "Pairs": what holds of the admitted pairs when each was admitted because it may be. Every pair joins statements that are alike and
--- independent, and every statement of the block is in one chain, once.
+-- independent, no statement is left in two pairs, and every statement of the block is in one chain, once.
 use mathlib.Core.Path.{_≡_, refl, sym, ap, ap₂, subst, _∙_}
 use mathlib.Core.Logic.{_⊎_, inl, inr}
 use mathlib.Core.Bool.{Bool, true, false, _&&_, _||_, not, false≢true}
@@ -18,9 +18,9 @@ use Rattle.meaning.specs.Block.{statement}
 use Rattle.meaning.specs.Dependence.{independent}
 use Rattle.meaning.specs.Pairs.{Pair, pair, isLeft, isRight, partner, chain, alike, mayBeAdmitted, admit}
 use Rattle.meaning.proofs.Paths.{Apart, independent-apart}
-use Rattle.theorems.specs.Units.{Every, Alike, occurs}
+use Rattle.theorems.specs.Units.{Every, Pairwise, Alike, occurs}
 use Rattle.theorems.proofs.Puts.{neither-left, neither-right}
-use Rattle.theorems.proofs.Occurs.{occurs-append, occurs-range, every-append}
+use Rattle.theorems.proofs.Occurs.{occurs-append, occurs-range, every-append, pairwise-append}
 use Rattle.theorems.proofs.Totals.{total, total-term, total-two, total-same, total-plus, total-times, total-one}
 use Rattle.theorems.proofs.Chains.{partner-none, partner-related, Chain, ends, goes, chain-whole, chain-kept, chain-joined}
 
@@ -87,6 +87,14 @@ pub record Admitted (ss : List Statement) (pairs : List Pair) : Type 0 where
   pub sound : Every (λ p. Joined ss (p .left) (p .right)) pairs
   pub whole : (s : ℕ) → s < length ss → isRight pairs s ≡ false → Chain pairs s (chain pairs s)
   pub partition : (t : ℕ) → t < length ss → total (length ss) (inChain pairs t) ≡ 1
+  -- no statement is left in two pairs
+  pub lefts-differ : Pairwise (λ p q. p .left ≡ q .left → ⊥) pairs
+
+-- who is left in none of them differs from each one's left
+left-in-none : (s : ℕ) (r : ℕ) (pairs : List Pair) → isLeft pairs s ≡ false → Every (λ p. Every (λ q. p .left ≡ q .left → ⊥) (pair s r ∷ [])) pairs
+left-in-none s r [] e = tt
+left-in-none s r (p ∷ pairs) e =
+    ((eqb-false (p .left) s (neither-left (eqb (p .left) s) (isLeft pairs s) e), tt), left-in-none s r pairs (neither-right (eqb (p .left) s) (isLeft pairs s) e))
 
 -- a chain from a statement of the block stays in the block
 pub chain-range : (ss : List Statement) {pairs : List Pair} {s : ℕ} {c : List ℕ} → Every (λ p. Joined ss (p .left) (p .right)) pairs
@@ -213,6 +221,7 @@ module _ (ss : List Statement) (pairs : List Pair) (known : Admitted ss pairs) w
               let apart : isRight pairs s || eqb r s ≡ false = sym (one-more pairs (pair l r) s) ∙ starts in
               chain-longer s below (neither-left (isRight pairs s) (eqb r s) apart) (λ e. eqb-false r s (neither-right (isRight pairs s) (eqb r s) apart) (sym e)) .chained;
           partition = still-one;
+          lefts-differ = pairwise-append (λ p q. p .left ≡ q .left → ⊥) pairs (pair l r ∷ []) (known .lefts-differ) (tt, tt) (left-in-none l r pairs (admits .left-free));
         }
 
 -- Before the first pair each statement is a chain of its own.
@@ -223,6 +232,7 @@ none-admitted ss =
       sound = tt;
       whole = λ s below starts. ends refl;
       partition = λ t below. total-same _ _ (length ss) (λ s h. alone t s) ∙ total-one t 1 (length ss) below;
+      lefts-differ = tt;
     }
   where
     alone : (t s : ℕ) → pick (eqb t s) 1 0 + 0 ≡ pick (eqb t s) 1 0
