@@ -1,12 +1,14 @@
--- The laws of sets: who is in nobody, in one alone, and in two joined.
+-- The laws of sets: who is in nobody, in one alone, in two joined, in what two share, and in what only one of two has; and that sets with
+-- the same members are the same number.
 use mathlib.Core.Path.{_≡_, refl, sym, ap, _∙_}
-use mathlib.Core.Bool.{false, _||_}
-use Prim.Native.Nat.{ℕ, zero, suc, _/_, _%_, _^_, _<_, max}
+use mathlib.Core.Bool.{false, _&&_, _||_, not, false≢true}
+use Prim.Native.Nat.{ℕ, zero, suc, _+_, _/_, _%_, _^_, _≤_, _<_, max, min}
 use native.Mathlib.Nat.{zero-div, pow-suc}
 use native.Mathlib.Omega.{arith}
 use lib.Dec.{eqb, eqb·zero-suc, eqb·suc-zero, eqb·suc-suc}
-use lib.Bits.{bitOr, or-step}
+use lib.Bits.{bitAnd, bitOr, bitXor, differ, and-step, or-step, xor-step}
 use lib.Pow.{shr-shr}
+use Rattle.basics.specs.Choice.{pick}
 use Rattle.basics.specs.Sets.{nobody, only, join, has}
 
 -- a bit further up, from the half
@@ -43,3 +45,73 @@ has-only (suc i) zero =
 has-only (suc i) (suc j) =
     let half : 2 ^ suc i / 2 ≡ 2 ^ i = omega (arith, pow-suc 2 i) in
     rw (down (2 ^ suc i) j, half, eqb·suc-suc) (has-only i j)
+
+-- what is in both
+bit-and : (i s t : ℕ) → bitAnd s t / 2 ^ i % 2 ≡ min (s / 2 ^ i % 2) (t / 2 ^ i % 2)
+bit-and zero s t = omega (arith, and-step s t)
+bit-and (suc i) s t =
+    let half : bitAnd s t / 2 ≡ bitAnd (s / 2) (t / 2) = omega (arith, and-step s t) in
+    rw (down (bitAnd s t) i, down s i, down t i, half) (bit-and i (s / 2) (t / 2))
+
+bits-both : (a b : ℕ) → a < 2 → b < 2 → eqb (min a b) 1 ≡ eqb a 1 && eqb b 1
+bits-both zero zero ha hb = refl
+bits-both zero (suc zero) ha hb = refl
+bits-both zero (suc (suc b)) ha hb = absurd (omega arith)
+bits-both (suc zero) zero ha hb = refl
+bits-both (suc zero) (suc zero) ha hb = refl
+bits-both (suc zero) (suc (suc b)) ha hb = absurd (omega arith)
+bits-both (suc (suc a)) b ha hb = absurd (omega arith)
+
+pub has-both : (s t i : ℕ) → has (bitAnd s t) i ≡ has s i && has t i
+has-both s t i = rw bit-and (bits-both (s / 2 ^ i % 2) (t / 2 ^ i % 2) (omega arith) (omega arith))
+
+-- what is in one and not in the other
+differ-bit : (a b : ℕ) → a < 2 → b < 2 → differ a b < 2
+differ-bit zero b ha hb = hb
+differ-bit (suc zero) zero ha hb = ha
+differ-bit (suc zero) (suc zero) ha hb = omega arith
+differ-bit (suc zero) (suc (suc b)) ha hb = absurd (omega arith)
+differ-bit (suc (suc a)) b ha hb = absurd (omega arith)
+
+bit-xor : (i s t : ℕ) → bitXor s t / 2 ^ i % 2 ≡ differ (s / 2 ^ i % 2) (t / 2 ^ i % 2)
+bit-xor zero s t =
+    let s-whole : s / 2 ^ 0 ≡ s = omega arith in
+    let t-whole : t / 2 ^ 0 ≡ t = omega arith in
+    rw (s-whole, t-whole) (omega (arith, xor-step s t, differ-bit (s % 2) (t % 2) (omega arith) (omega arith)))
+bit-xor (suc i) s t =
+    let half : bitXor s t / 2 ≡ bitXor (s / 2) (t / 2) = omega (arith, xor-step s t, differ-bit (s % 2) (t % 2) (omega arith) (omega arith)) in
+    rw (down (bitXor s t) i, down s i, down t i, half) (bit-xor i (s / 2) (t / 2))
+
+bits-differ : (a b : ℕ) → a < 2 → b < 2 → eqb (differ a b) 1 ≡ pick (eqb a 1) (not (eqb b 1)) (eqb b 1)
+bits-differ zero b ha hb = refl
+bits-differ (suc zero) zero ha hb = refl
+bits-differ (suc zero) (suc zero) ha hb = refl
+bits-differ (suc zero) (suc (suc b)) ha hb = absurd (omega arith)
+bits-differ (suc (suc a)) b ha hb = absurd (omega arith)
+
+pub has-differ : (s t i : ℕ) → has (bitXor s t) i ≡ pick (has s i) (not (has t i)) (has t i)
+has-differ s t i = rw bit-xor (bits-differ (s / 2 ^ i % 2) (t / 2 ^ i % 2) (omega arith) (omega arith))
+
+-- sets with the same members are the same number
+bit-same : (a b : ℕ) → a < 2 → b < 2 → eqb a 1 ≡ eqb b 1 → a ≡ b
+bit-same zero zero ha hb e = refl
+bit-same zero (suc zero) ha hb e = absurd (false≢true e)
+bit-same zero (suc (suc b)) ha hb e = absurd (omega arith)
+bit-same (suc zero) zero ha hb e = absurd (false≢true (sym e))
+bit-same (suc zero) (suc zero) ha hb e = refl
+bit-same (suc zero) (suc (suc b)) ha hb e = absurd (omega arith)
+bit-same (suc (suc a)) b ha hb e = absurd (omega arith)
+
+has-half : (s i : ℕ) → has (s / 2) i ≡ has s (suc i)
+has-half s i = ap (λ (n : ℕ). eqb (n % 2) 1) (sym (down s i))
+
+same-within : (n s t : ℕ) → s ≤ n → t ≤ n → ((i : ℕ) → has s i ≡ has t i) → s ≡ t
+same-within zero s t hs ht same = omega arith
+same-within (suc n) s t hs ht same =
+    let halves : s / 2 ≡ t / 2 =
+    same-within n (s / 2) (t / 2) (omega arith) (omega arith) (λ i. has-half s i ∙ same (suc i) ∙ sym (has-half t i)) in
+    let lowest : s / 2 ^ 0 % 2 ≡ t / 2 ^ 0 % 2 = bit-same (s / 2 ^ 0 % 2) (t / 2 ^ 0 % 2) (omega arith) (omega arith) (same 0) in
+    omega arith
+
+pub same-sets : (s t : ℕ) → ((i : ℕ) → has s i ≡ has t i) → s ≡ t
+same-sets s t same = same-within (s + t) s t (omega arith) (omega arith) same
