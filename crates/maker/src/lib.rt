@@ -7,20 +7,20 @@ ghost use lib.ListN.{length, take, drop};
 use encode::Written;
 use meaning::Block;
 
-// What making a list returns.
+// What making a list returns: "list length, block price, list price".
 pub struct Made {
     pub status: u8,
     pub size: usize,
-    pub block_price: u64,
-    pub list_price: u64,
+    pub block: u64,
+    pub list: u64,
 }
 
 fn refused(status: u8, size: usize) -> Made {
     Made {
         status,
         size,
-        block_price: 0,
-        list_price: 0,
+        block: 0,
+        list: 0,
     }
 }
 
@@ -162,8 +162,8 @@ fn make(block: Block, room: &mut [u8]) -> Made {
     Made {
         status: 0,
         size: w.size,
-        block_price: price,
-        list_price: w.price,
+        block: price,
+        list: w.price,
     }
 }
 

@@ -62,7 +62,7 @@ records-back (i ∷ list) fit =
     )
 
 -- the records are short
-records-length : (list : List Instruction) → all instructionFits list ≡ true → length (recordsBytes list) ≤ 24 * length list
+pub records-length : (list : List Instruction) → all instructionFits list ≡ true → length (recordsBytes list) ≤ 24 * length list
 records-length [] fit = omega arith
 records-length (i ∷ list) fit =
     omega (

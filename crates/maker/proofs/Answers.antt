@@ -1,0 +1,79 @@
+-- What is left of the call by what reading the block answers, by the price and by the room.
+use mathlib.Core.Path.{_≡_, refl, ap, sym, _∙_}
+use Prim.Native.Nat.{ℕ, _≤_, _<_}
+use mathlib.Core.Bool.{true}
+use mathlib.Core.List.{List, _++_}
+use native.Mathlib.Omega.{arith}
+use lib.ListN.{length, take, drop}
+use borrow.Author.Tests.{lt-ltb, le-ltb, le-leb, lt-leb}
+use Rattle.basics.specs.Lists.{all}
+use Rattle.meaning.specs.declared.Block.{Block as Slots}
+use Rattle.meaning.specs.Numbers.{Answer, refused, done}
+use Rattle.meaning.specs.Block.{Block, declared, blockPrice}
+use Rattle.meaning.specs.Format.{readBlock}
+use Rattle.meaning.specs.List.{listPrice, listBytes}
+use Rattle.meaning.specs.Choice.{packedList, plainList, chosenList}
+use Rattle.meaning.specs.Calls.{listMade, blockRead, readBlockCall, makeListCall}
+use Rattle.theorems.proofs.Bytes.{isByte}
+use Rattle.theorems.proofs.Readable.{refused-number, done-readable, done-fits, declared-in-memory}
+use Rattle.maker.specs.Promises.{Legal, Holds}
+
+-- a refusal of the block ends the call
+stopped-at : (a : Answer Block) (room : List ℕ) (status : ℕ) → blockRead a .status ≡ status → (status ≡ 0 → ⊥)
+    → record { status = status; size = 0; blockCost = 0; listCost = 0; room = room } ≡ listMade room a
+stopped-at (refused number) room status e nonzero = rw (← e)
+stopped-at (done b) room status e nonzero = absurd (nonzero (sym e))
+
+pub stopped : (bytes room : List ℕ) (status : ℕ) → readBlockCall bytes .status ≡ status → (status ≡ 0 → ⊥)
+    → record { status = status; size = 0; blockCost = 0; listCost = 0; room = room } ≡ makeListCall bytes room
+unfolding readBlockCall makeListCall
+stopped bytes room status e nonzero = stopped-at (readBlock bytes) room status e nonzero
+
+-- a block that is read goes on
+goes-on : (bytes : List ℕ) (a : Answer Block) (room : List ℕ) (slots : Slots) → readBlock bytes ≡ a
+    → blockRead a .status ≡ 0 → blockRead a .block ≡ slots → listMade room (done (declared slots)) ≡ listMade room a
+goes-on bytes (refused number) room slots read e same = absurd (omega (arith, refused-number bytes number read))
+goes-on bytes (done b) room slots read e same = ap (λ (d : Block). listMade room (done d)) (ap declared (sym same) ∙ declared-in-memory b)
+
+pub went-on : (bytes room : List ℕ) (slots : Slots) → readBlockCall bytes .status ≡ 0 → readBlockCall bytes .block ≡ slots
+    → listMade room (done (declared slots)) ≡ makeListCall bytes room
+unfolding readBlockCall makeListCall
+went-on bytes room slots e same = goes-on bytes (readBlock bytes) room slots refl e same
+
+legal-of : (bytes : List ℕ) (a : Answer Block) (slots : Slots) → readBlock bytes ≡ a → all isByte bytes ≡ true
+    → blockRead a .status ≡ 0 → blockRead a .block ≡ slots → Legal (declared slots)
+legal-of bytes (refused number) slots read are e same = absurd (omega (arith, refused-number bytes number read))
+legal-of bytes (done b) slots read are e same =
+    subst-legal b (declared slots) (sym (declared-in-memory b) ∙ ap declared same)
+    (record { readable = done-readable bytes b read; constants = done-fits bytes b are read })
+  where
+    subst-legal : (b d : Block) → b ≡ d → Legal b → Legal d
+    subst-legal b d e legal = rw (← e) legal
+
+-- a block that is read is legal
+pub read-legal : (bytes : List ℕ) (slots : Slots) → all isByte bytes ≡ true → readBlockCall bytes .status ≡ 0 → readBlockCall bytes .block ≡ slots
+    → Legal (declared slots)
+unfolding readBlockCall
+read-legal bytes slots are e same = legal-of bytes (readBlock bytes) slots refl are e same
+
+-- "This list is the answer if its price is below the block's; else S for every statement in block order."
+module _ (b : Block) where
+  pub packed-chosen : (price : ℕ) → price ≡ listPrice (b .statements) (packedList b) → price < blockPrice (b .statements) → packedList b ≡ chosenList b
+  unfolding chosenList
+  packed-chosen price e below = rw (lt-ltb (listPrice (b .statements) (packedList b)) (blockPrice (b .statements)) (omega arith))
+
+  pub plain-chosen : (price : ℕ) → price ≡ listPrice (b .statements) (packedList b) → blockPrice (b .statements) ≤ price → plainList b ≡ chosenList b
+  unfolding chosenList
+  plain-chosen price e above = rw (le-ltb (listPrice (b .statements) (packedList b)) (blockPrice (b .statements)) (omega arith))
+
+  -- "block, then 7": the list in the room's first bytes, or the length that it needs
+  pub made-whole : (out room : List ℕ) (size block price : ℕ) → Holds (b .statements) (chosenList b) out size price → block ≡ blockPrice (b .statements)
+      → size ≤ length room
+      → record { status = 0; size = size; blockCost = block; listCost = price; room = take size out ++ drop size room } ≡ listMade room (done b)
+  made-whole out room size block price h e enough =
+      rw (h .bytes, h .priced, e, le-leb (length (listBytes (chosenList b))) (length room) (omega (arith, h .sized)), h .sized)
+
+  pub made-short : (out room : List ℕ) (size price : ℕ) → Holds (b .statements) (chosenList b) out size price → length room < size
+      → record { status = 7; size = size; blockCost = 0; listCost = 0; room = room } ≡ listMade room (done b)
+  made-short out room size price h short =
+      rw (lt-leb (length (listBytes (chosenList b))) (length room) (omega (arith, h .sized)), h .sized)
