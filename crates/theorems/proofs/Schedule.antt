@@ -49,9 +49,9 @@ module _ (ss : List Statement) where
   Free s t = dependsOn ss s t ≡ false
 
   -- the waiting units and the set of scheduled statements: each statement of the block is in one of the units, once, or in the set
-  record Waits (waiting : List (List ℕ)) (set : ℕ) : Type 0 where
-    fit : Every (Fits ss) waiting
-    once : (t : ℕ) → t < length ss → sums (occurs t) waiting + pick (has set t) 1 0 ≡ 1
+  pub record Waits (waiting : List (List ℕ)) (set : ℕ) : Type 0 where
+    pub fit : Every (Fits ss) waiting
+    pub once : (t : ℕ) → t < length ss → sums (occurs t) waiting + pick (has set t) 1 0 ≡ 1
 
   -- what is made of them
   record Made (waiting out : List (List ℕ)) : Type 0 where
@@ -64,17 +64,17 @@ module _ (ss : List Statement) where
   sums-range (u ∷ us) fit t h = omega (arith, occurs-range (length ss) u (fit .0 .in-range) t h, sums-range us (fit .1) t h)
 
   module _ (waiting : List (List ℕ)) (set : ℕ) (waits : Waits waiting set) where
-    filled : Every (λ u. 0 < length u) waiting
+    pub filled : Every (λ u. 0 < length u) waiting
     filled = every-weaker (fits-filled ss) waiting (waits .fit)
 
-    in-block : (t : ℕ) → 0 < sums (occurs t) waiting → t < length ss
+    pub in-block : (t : ℕ) → 0 < sums (occurs t) waiting → t < length ss
     in-block t h = either (below-or-not t (length ss))
       where
         either : (t < length ss) ⊎ (length ss ≤ t) → t < length ss
         either (inl k) = k
         either (inr k) = absurd (omega (arith, h, sums-range waiting (waits .fit) t k))
 
-    at-most-once : (t : ℕ) → sums (occurs t) waiting ≤ 1
+    pub at-most-once : (t : ℕ) → sums (occurs t) waiting ≤ 1
     at-most-once t = either (below-or-not t (length ss))
       where
         either : (t < length ss) ⊎ (length ss ≤ t) → sums (occurs t) waiting ≤ 1
@@ -92,7 +92,7 @@ module _ (ss : List Statement) where
         either true e = refl
         either false e = absurd (omega (arith, absent, waits .once t below, counts-as e))
 
-    taken : (g : List ℕ → ℕ) (unit : List ℕ) → In unit waiting → sums g waiting ≡ g unit + sums g (without unit waiting)
+    pub taken : (g : List ℕ → ℕ) (unit : List ℕ) → In unit waiting → sums g waiting ≡ g unit + sums g (without unit waiting)
     taken g unit there = without-sums g unit waiting there filled (at-most-once (lowest unit))
 
     -- a ready unit depends on nothing that waits
@@ -104,7 +104,7 @@ module _ (ss : List Statement) where
         either false e = refl
 
     -- it is taken
-    left-waiting : (unit : List ℕ) → In unit waiting → Waits (without unit waiting) (withUnit unit set)
+    pub left-waiting : (unit : List ℕ) → In unit waiting → Waits (without unit waiting) (withUnit unit set)
     left-waiting unit there = record { fit = every-without (Fits ss) unit waiting (waits .fit); once = λ t below. either t below (below-or-not 0 (occurs t unit)) }
       where
         either : (t : ℕ) → t < length ss → (0 < occurs t unit) ⊎ (occurs t unit ≤ 0)
@@ -147,7 +147,7 @@ module _ (ss : List Statement) where
     dissolved-often pack there t =
         omega (arith, sums-append (occurs t) (singles pack) (without pack waiting), singles-often t pack, taken (occurs t) pack there)
 
-    dissolved-waits : (pack : List ℕ) → In pack waiting → Waits (singles pack ++ without pack waiting) set
+    pub dissolved-waits : (pack : List ℕ) → In pack waiting → Waits (singles pack ++ without pack waiting) set
     dissolved-waits pack there =
         record {
           fit =
@@ -245,7 +245,7 @@ module _ (ss : List Statement) where
   scheduled (suc n) = one-step n (scheduled n)
 
   -- twice as many steps as statements are enough
-  no-more-than-block : (units : List (List ℕ)) → Units ss units → length (flat units) ≤ length ss
+  pub no-more-than-block : (units : List (List ℕ)) → Units ss units → length (flat units) ≤ length ss
   no-more-than-block units known =
       omega (arith, fewer (flat units) (numbers (length ss) 0) (λ s. within s (below-or-not s (length ss))), length-numbers (length ss) 0)
     where
@@ -253,14 +253,18 @@ module _ (ss : List Statement) where
       within s (inl below) = omega (arith, known .once s below, numbers-inside (length ss) 0 s (omega arith) (omega arith))
       within s (inr above) = omega (arith, occurs-flat s units, sums-range units (known .fit) s above)
 
+  -- at first all units wait and nothing is scheduled
+  pub all-wait : (units : List (List ℕ)) → Units ss units → Waits units nobody
+  all-wait units known =
+      record {
+        fit = known .fit;
+        once = λ t below. omega (arith, known .once t below, occurs-flat t units, counts-as (has-nobody t));
+      }
+
   schedule-made : (units : List (List ℕ)) → Units ss units → Made units (schedule ss units)
   unfolding schedule
   schedule-made units known =
-      scheduled (length ss + length ss) units nobody
-      (record {
-        fit = known .fit;
-        once = λ t below. omega (arith, known .once t below, occurs-flat t units, counts-as (has-nobody t));
-      })
+      scheduled (length ss + length ss) units nobody (all-wait units known)
       (omega (arith, weight-twice units, no-more-than-block units known))
 
   -- The schedule of units that fit, with each statement of the block in one of them, is made of such units again.
