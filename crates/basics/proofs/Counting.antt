@@ -1,5 +1,5 @@
 -- The laws of counting: one step of what remains, its end, and what holds at the end because it holds at each step.
-use mathlib.Core.Path.{_≡_, subst}
+use mathlib.Core.Path.{_≡_, refl, ap, _∙_, subst}
 use Prim.Native.Nat.{ℕ, zero, suc, _+_, _-_, _≤_, _<_}
 use native.Mathlib.Nat.{add-zero, zero-add}
 use native.Mathlib.Omega.{arith}
@@ -36,3 +36,48 @@ pub count-up {ℓ κ} :
     → P n (count n 0 f a)
 count-up P f n a start step =
     subst (λ (k : ℕ). P k (count n 0 f a)) (zero-add n) (count-holds P f n 0 a start (λ j x low high. step j x (omega arith)))
+
+-- the same of two counts side by side
+pub count-beside {ℓ κ μ} :
+    {A : Type ℓ} {B : Type κ} (R : ℕ → A → B → Type μ) (f : ℕ → A → A) (g : ℕ → B → B) (n i : ℕ) (a : A) (b : B)
+    → R i a b
+    → ((j : ℕ) (x : A) (y : B) → i ≤ j → j < i + n → R j x y → R (j + 1) (f j x) (g j y))
+    → R (i + n) (count n i f a) (count n i g b)
+count-beside R f g zero i a b start step = rw add-zero start
+count-beside R f g (suc n) i a b start step =
+    let later =
+    count-beside R f g n (i + 1) (f i a) (g i b) (step i a b (omega arith) (omega arith) start)
+    (λ j x y low high. step j x y (omega arith) (omega arith)) in
+    let e : i + 1 + n ≡ i + suc n = omega arith in
+    subst (λ (k : ℕ). R k (count n (i + 1) f (f i a)) (count n (i + 1) g (g i b))) e later
+
+pub count-both {ℓ κ μ} :
+    {A : Type ℓ} {B : Type κ} (R : ℕ → A → B → Type μ) (f : ℕ → A → A) (g : ℕ → B → B) (n : ℕ) (a : A) (b : B)
+    → R 0 a b
+    → ((j : ℕ) (x : A) (y : B) → j < n → R j x y → R (j + 1) (f j x) (g j y))
+    → R n (count n 0 f a) (count n 0 g b)
+count-both R f g n a b start step =
+    subst (λ (k : ℕ). R k (count n 0 f a) (count n 0 g b)) (zero-add n)
+    (count-beside R f g n 0 a b start (λ j x y low high. step j x y (omega arith)))
+
+-- the same is done where the same is done at each number
+pub count-same {ℓ} :
+    {A : Type ℓ} (f g : ℕ → A → A) (n i : ℕ) (a : A) → ((j : ℕ) (x : A) → i ≤ j → j < i + n → f j x ≡ g j x) → count n i f a ≡ count n i g a
+count-same f g zero i a e = refl
+count-same f g (suc n) i a e =
+    ap (count n (i + 1) f) (e i a (omega arith) (omega arith)) ∙ count-same f g n (i + 1) (g i a) (λ j x low high. e j x (omega arith) (omega arith))
+
+-- the last number by itself
+pub count-last {ℓ} : {A : Type ℓ} (f : ℕ → A → A) (n i : ℕ) (a : A) → count (suc n) i f a ≡ f (i + n) (count n i f a)
+count-last f zero i a = rw add-zero
+count-last f (suc n) i a =
+    let e : i + 1 + n ≡ i + suc n = omega arith in
+    count-last f n (i + 1) (f i a) ∙ ap (λ (k : ℕ). f k (count n (i + 1) f (f i a))) e
+
+-- what each step keeps of the state is counted by itself
+pub count-through {ℓ κ} :
+    {A : Type ℓ} {B : Type κ} (to : A → B) (f : ℕ → A → A) (g : ℕ → B → B)
+    → ((j : ℕ) (x : A) → to (f j x) ≡ g j (to x))
+    → (n i : ℕ) (a : A) → to (count n i f a) ≡ count n i g (to a)
+count-through to f g e zero i a = refl
+count-through to f g e (suc n) i a = count-through to f g e n (i + 1) (f i a) ∙ ap (count n (i + 1) g) (e i a)

@@ -1,13 +1,14 @@
--- The laws of sets: who is in nobody, in one alone, in two joined, in what two share, and in what only one of two has; and that sets with
--- the same members are the same number.
+-- The laws of sets: who is in nobody, in one alone, in two joined, in what two share, in what only one of two has, and in all below a
+-- number; and that sets with the same members are the same number.
 use mathlib.Core.Path.{_≡_, refl, sym, ap, _∙_}
-use mathlib.Core.Bool.{false, _&&_, _||_, not, false≢true}
-use Prim.Native.Nat.{ℕ, zero, suc, _+_, _/_, _%_, _^_, _≤_, _<_, max, min}
-use native.Mathlib.Nat.{zero-div, pow-suc}
+use mathlib.Core.Bool.{true, false, _&&_, _||_, not, false≢true}
+use Prim.Native.Nat.{ℕ, zero, suc, _+_, _-_, _/_, _%_, _^_, _≤_, _<_, max, min}
+use native.Mathlib.Nat.{zero-div, pow-suc, div-eq-of-lt, lt-of-lt-of-le}
 use native.Mathlib.Omega.{arith}
-use lib.Dec.{eqb, eqb·zero-suc, eqb·suc-zero, eqb·suc-suc}
+use lib.Dec.{eqb, ltb, leb·zero, leb·suc-zero, leb·suc-suc, eqb·zero-suc, eqb·suc-zero, eqb·suc-suc}
 use lib.Bits.{bitAnd, bitOr, bitXor, differ, and-step, or-step, xor-step}
-use lib.Pow.{shr-shr}
+use lib.Pow.{pow-pos, pow-mono, shr-shr}
+use borrow.Author.Tests.{ne-eqb}
 use Rattle.basics.specs.Choice.{pick}
 use Rattle.basics.specs.Sets.{nobody, only, join, has}
 
@@ -102,7 +103,8 @@ bit-same (suc zero) (suc zero) ha hb e = refl
 bit-same (suc zero) (suc (suc b)) ha hb e = absurd (omega arith)
 bit-same (suc (suc a)) b ha hb e = absurd (omega arith)
 
-has-half : (s i : ℕ) → has (s / 2) i ≡ has s (suc i)
+-- the others than the lowest are in the half
+pub has-half : (s i : ℕ) → has (s / 2) i ≡ has s (suc i)
 has-half s i = ap (λ (n : ℕ). eqb (n % 2) 1) (sym (down s i))
 
 same-within : (n s t : ℕ) → s ≤ n → t ≤ n → ((i : ℕ) → has s i ≡ has t i) → s ≡ t
@@ -115,3 +117,35 @@ same-within (suc n) s t hs ht same =
 
 pub same-sets : (s t : ℕ) → ((i : ℕ) → has s i ≡ has t i) → s ≡ t
 same-sets s t same = same-within (s + t) s t (omega arith) (omega arith) same
+
+pub has-lowest : (s : ℕ) → has s 0 ≡ eqb (s % 2) 1
+has-lowest s =
+    let whole : s / 1 ≡ s = omega arith in
+    rw whole
+
+-- all that come before i
+pub has-below : (i j : ℕ) → has (2 ^ i - 1) j ≡ ltb j i
+has-below zero j = has-nobody j ∙ sym (leb·suc-zero j)
+has-below (suc i) zero =
+    let odd : (2 ^ suc i - 1) / 1 % 2 ≡ 1 = omega (arith, pow-suc 2 i, pow-pos i) in
+    rw odd (sym (leb·suc-suc 0 i ∙ leb·zero i))
+has-below (suc i) (suc j) =
+    let half : (2 ^ suc i - 1) / 2 ≡ 2 ^ i - 1 = omega (arith, pow-suc 2 i, pow-pos i) in
+    rw (down (2 ^ suc i - 1) j, half) (has-below i j ∙ sym (leb·suc-suc (suc j) i))
+
+-- a set that has no one is nobody, and one that has someone is not
+pub no-one : (s : ℕ) → ((i : ℕ) → has s i ≡ false) → s ≡ nobody
+no-one s e = same-sets s nobody (λ i. e i ∙ sym (has-nobody i))
+
+pub not-nobody : (s i : ℕ) → has s i ≡ true → eqb s nobody ≡ false
+not-nobody s i e = ne-eqb s nobody λ (empty : s ≡ nobody). false≢true (sym (has-nobody i) ∙ ap (λ (set : ℕ). has set i) (sym empty) ∙ e)
+
+-- a set below 2 ^ n has nobody from n on, and the other way round
+pub has-beyond : (n s i : ℕ) → s < 2 ^ n → n ≤ i → has s i ≡ false
+has-beyond n s i small beyond =
+    let none : s / 2 ^ i ≡ 0 = div-eq-of-lt (lt-of-lt-of-le small (pow-mono beyond)) in
+    rw none
+
+pub set-bound : (n s : ℕ) → ((i : ℕ) → n ≤ i → has s i ≡ false) → s < 2 ^ n
+set-bound zero s e = omega (arith, no-one s (λ i. e i (omega arith)))
+set-bound (suc n) s e = omega (arith, pow-suc 2 n, set-bound n (s / 2) (λ i beyond. has-half s i ∙ e (suc i) (omega arith)))
