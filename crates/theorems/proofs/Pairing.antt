@@ -44,7 +44,7 @@ module _ (ss : List Statement) where
   definitions-admitted none pairs known = known
   definitions-admitted (some p) pairs known = if-pays p pairs known
 
-  use-to-definition : (p : Pair) (position : Position) (pairs : List Pair) → Admitted ss pairs → Admitted ss (useToDefinition ss p position pairs)
+  pub use-to-definition : (p : Pair) (position : Position) (pairs : List Pair) → Admitted ss pairs → Admitted ss (useToDefinition ss p position pairs)
   unfolding useToDefinition
   use-to-definition p position pairs known = definitions-admitted (definitions ss position p) pairs known
 
@@ -88,7 +88,7 @@ module _ (ss : List Statement) where
   best-admitted none pairs picks known = known
   best-admitted (some p) pairs picks known = admit-keeps ss pairs p known picks
 
-  definition-to-use : (p : Pair) (pairs : List Pair) → Admitted ss pairs → Admitted ss (definitionToUse ss p pairs)
+  pub definition-to-use : (p : Pair) (pairs : List Pair) → Admitted ss pairs → Admitted ss (definitionToUse ss p pairs)
   unfolding definitionToUse
   definition-to-use p pairs known = either (bothVariables ss p)
     where
@@ -97,12 +97,12 @@ module _ (ss : List Statement) where
       either false = known
 
   -- each visit, and all of them
-  visit-admitted : (p : Pair) (pairs : List Pair) → Admitted ss pairs → Admitted ss (visit ss p pairs)
+  pub visit-admitted : (p : Pair) (pairs : List Pair) → Admitted ss pairs → Admitted ss (visit ss p pairs)
   visit-admitted p pairs known =
       definition-to-use p (useToDefinition ss p right (useToDefinition ss p left pairs))
       (use-to-definition p right (useToDefinition ss p left pairs) (use-to-definition p left pairs known))
 
-  visits-admitted : (n i : ℕ) (pairs : List Pair) → Admitted ss pairs → Admitted ss (visitFrom n ss i pairs)
+  pub visits-admitted : (n i : ℕ) (pairs : List Pair) → Admitted ss pairs → Admitted ss (visitFrom n ss i pairs)
   unfolding visitFrom
   visits-admitted zero i pairs known = known
   visits-admitted (suc n) i pairs known =
