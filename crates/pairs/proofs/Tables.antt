@@ -89,7 +89,7 @@ abbrev chosen : Bool → Pair → Option ℕ → Option ℕ
 chosen test p other = elim test [ true ↦ some (p .right) | false ↦ other ]
 
 -- a statement from which all these lefts differ has no partner in them
-no-partner : (s : ℕ) (pairs : List Pair) → Every (λ p. s ≡ p .left → ⊥) pairs → partner pairs s ≡ none
+pub no-partner : (s : ℕ) (pairs : List Pair) → Every (λ p. s ≡ p .left → ⊥) pairs → partner pairs s ≡ none
 no-partner s [] e = refl
 no-partner s (p ∷ pairs) e = ap (λ (test : Bool). chosen test p (partner pairs s)) (ne-eqb (p .left) s (λ f. e .0 (sym f))) ∙ no-partner s pairs (e .1)
 
