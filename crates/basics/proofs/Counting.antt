@@ -81,3 +81,11 @@ pub count-through {ℓ κ} :
     → (n i : ℕ) (a : A) → to (count n i f a) ≡ count n i g (to a)
 count-through to f g e zero i a = refl
 count-through to f g e (suc n) i a = count-through to f g e n (i + 1) (f i a) ∙ ap (count n (i + 1) g) (e i a)
+
+-- what remains of a count of n at i: one number more, and none left
+module _ {ℓ} {A : Type ℓ} (f : ℕ → A → A) (n i : ℕ) (a : A) where
+  pub count-more : i < n → count (n - i) i f a ≡ count (n - (i + 1)) (i + 1) f (f i a)
+  count-more h = rw (more n i h)
+
+  pub count-end : n ≤ i → count (n - i) i f a ≡ a
+  count-end h = rw (none-left n i h)
