@@ -86,8 +86,15 @@ ready-depends ss set s ready t depends =
             subst (λ (x : ℕ). has set x ≡ true) here
             (latest j (and-right so-far (not (dependsOn ss s j) || has set j) e) (subst (λ (x : ℕ). dependsOn ss s x ≡ true) (sym here) d))
 
--- A statement is ready where all before it are scheduled.
-pub ready-behind : (ss : List Statement) (set s : ℕ) → ((t : ℕ) → t < s → has set t ≡ true) → statementReady ss set s ≡ true
-ready-behind ss set s h =
+-- A statement is ready where all that it depends on is scheduled, and so where all before it are.
+implied : (a b : Bool) → (a ≡ true → b ≡ true) → not a || b ≡ true
+implied true b h = h refl
+implied false b h = refl
+
+pub depends-ready : (ss : List Statement) (set s : ℕ) → ((t : ℕ) → dependsOn ss s t ≡ true → has set t ≡ true) → statementReady ss set s ≡ true
+depends-ready ss set s h =
     count-up (λ (j : ℕ) (so-far : Bool). so-far ≡ true) (λ earlier ready. ready && (not (dependsOn ss s earlier) || has set earlier)) s true refl
-    λ j so-far below known. and-both so-far (not (dependsOn ss s j) || has set j) known (or-right (not (dependsOn ss s j)) (has set j) (h j below))
+    λ j so-far below known. and-both so-far (not (dependsOn ss s j) || has set j) known (implied (dependsOn ss s j) (has set j) (h j))
+
+pub ready-behind : (ss : List Statement) (set s : ℕ) → ((t : ℕ) → t < s → has set t ≡ true) → statementReady ss set s ≡ true
+ready-behind ss set s h = depends-ready ss set s (λ t depends. h t (ltb-true t s (and-left _ _ (and-left _ _ depends))))
