@@ -1,26 +1,49 @@
 // "Emission": the instructions of each unit, and the extraction at the end.
 
+ghost use mathlib.Core.Path.{_≡_};
+ghost use Rattle.encode.specs.Records.{listing};
+ghost use Rattle.lanes.specs.Homes.{inLanes};
+ghost use Rattle.fetch.specs.Fetching.{state};
+ghost use Rattle.emit.specs.Emitting.{emitSingleState, storeCode, storeTuple, operationIn, operatedState, emitPackState, emitUnitState, nothingIn, emitUnitsState, emissionIn};
 use encode::Written;
 use fetch::Emitted;
 use registers::Tuple;
 use units::Unit;
 
 // "A single emits S."
-fn emit_single(out: &mut [u8], homes: &mut [u16], facts: &[u64], e: Emitted, s: usize) -> Emitted {
+fn emit_single(
+    out: &mut [u8],
+    homes: &mut [u16],
+    registers: &[u64],
+    facts: &[u64],
+    e: Emitted,
+    unit: Unit,
+) -> Emitted
+    ensures { λ r. ⌜ state (now (out .exit)) (now (homes .exit)) (now (registers .entry)) r
+        ≡ emitSingleState (now (facts .entry)) unit (state (now (out .entry)) (now (homes .entry)) (now (registers .entry)) e) ⌝ }
+{
+    let s = unit.lanes[0] as usize;
     let before = e.written;
     let first = lanes::extract(out, homes, before, facts::fact(facts, facts::LEFT, s));
     let second = lanes::extract(out, homes, first, facts::fact(facts, facts::RIGHT, s));
-    let written = encode::write_s(out, second, s as u8, facts::fact(facts, facts::PRICE, s));
+    let written = encode::write_s(
+        out,
+        second,
+        unit.lanes[0],
+        facts::fact(facts, facts::PRICE, s),
+    );
     lanes::set_home(homes, facts::fact(facts, facts::DESTINATION, s), 0);
     Emitted {
         written,
         registers: e.registers,
-        done: e.done | rows::only(s),
+        done: e.done | units::members(unit),
     }
 }
 
 // "D per lane for other cells, nothing for variables"
-fn store_lane(out: &mut [u8], w: Written, r: u8, lane: u8, code: u64) -> Written {
+fn store_lane(out: &mut [u8], w: Written, r: u8, lane: u8, code: u64) -> Written
+    ensures { λ result. ⌜ listing (now (out .exit)) result ≡ storeCode r lane code (listing (now (out .entry)) w) ⌝ }
+{
     if codes::is_cell(code) {
         return encode::write_cells(out, w, 6, r, lane, code, 2);
     }
@@ -28,7 +51,9 @@ fn store_lane(out: &mut [u8], w: Written, r: u8, lane: u8, code: u64) -> Written
 }
 
 // "Then the destination: W if neighbours, D per lane for other cells, nothing for variables."
-fn store(out: &mut [u8], w: Written, r: u8, tuple: Tuple) -> Written {
+fn store(out: &mut [u8], w: Written, r: u8, tuple: Tuple) -> Written
+    ensures { λ result. ⌜ listing (now (out .exit)) result ≡ storeTuple r tuple (listing (now (out .entry)) w) ⌝ }
+{
     if fetch::are_in_row(tuple) {
         return encode::write_cells(out, w, 5, r, tuple.count, tuple.lanes[0], 1);
     }
@@ -39,7 +64,9 @@ fn store(out: &mut [u8], w: Written, r: u8, tuple: Tuple) -> Written {
 }
 
 // "The statements of a pack have one operation", which the sort has above the kind of destination.
-fn operation_of(facts: &[u64], unit: Unit) -> u8 {
+fn operation_of(facts: &[u64], unit: Unit) -> u8
+    ensures { λ r. ⌜ r ≡ operationIn (now (facts .entry)) unit ⌝ }
+{
     rows::low_byte(facts::fact(facts, facts::SORT, unit.lanes[0] as usize) / 2)
 }
 
@@ -53,7 +80,10 @@ fn operated(
     writers: &[u64],
     e: Emitted,
     unit: Unit,
-) -> Emitted {
+) -> Emitted
+    ensures { λ r. ⌜ state (now (out .exit)) (now (homes .exit)) (now (registers .exit)) r
+        ≡ operatedState (now (facts .entry)) (now (numbers .entry)) (now (writers .entry)) unit (state (now (out .entry)) (now (homes .entry)) (now (registers .entry)) e) ⌝ }
+{
     let operation = operation_of(facts, unit);
     let tuple = fetch::tuple_at(facts, facts::LEFT, unit);
     let left = fetch::fetch(out, homes, registers, numbers, writers, e, tuple);
@@ -70,16 +100,15 @@ fn operated(
         operation,
     );
     let both = right.emitted;
-    let r = both.registers as u8;
     let fetched = both.written;
     let written = encode::write_o(
         out,
         fetched,
-        r,
+        both.registers,
         operation,
         unit.count,
-        left.register as u8,
-        right.register as u8,
+        left.register,
+        right.register,
     );
     Emitted {
         written,
@@ -98,18 +127,21 @@ fn emit_pack(
     writers: &[u64],
     e: Emitted,
     unit: Unit,
-) -> Emitted {
+) -> Emitted
+    ensures { λ r. ⌜ state (now (out .exit)) (now (homes .exit)) (now (registers .exit)) r
+        ≡ emitPackState (now (facts .entry)) (now (numbers .entry)) (now (writers .entry)) unit (state (now (out .entry)) (now (homes .entry)) (now (registers .entry)) e) ⌝ }
+{
     let worked = operated(out, homes, registers, facts, numbers, writers, e, unit);
     let r = worked.registers;
     let before = worked.written;
     let tuple = fetch::tuple_at(facts, facts::DESTINATION, unit);
-    let written = store(out, before, r as u8, tuple);
+    let written = store(out, before, r, tuple);
     let done = worked.done | units::members(unit);
-    registers::hold(registers, r, numbers, writers, tuple, done);
+    registers::hold(registers, r as usize, numbers, writers, tuple, done);
     lanes::land(homes, tuple, r);
     Emitted {
         written,
-        registers: r + 1,
+        registers: std::num::wrapping_add_u8(r, 1),
         done,
     }
 }
@@ -123,9 +155,12 @@ fn emit_unit(
     writers: &[u64],
     e: Emitted,
     unit: Unit,
-) -> Emitted {
+) -> Emitted
+    ensures { λ r. ⌜ state (now (out .exit)) (now (homes .exit)) (now (registers .exit)) r
+        ≡ emitUnitState (now (facts .entry)) (now (numbers .entry)) (now (writers .entry)) unit (state (now (out .entry)) (now (homes .entry)) (now (registers .entry)) e) ⌝ }
+{
     if unit.count < 2 {
-        return emit_single(out, homes, facts, e, unit.lanes[0] as usize);
+        return emit_single(out, homes, registers, facts, e, unit);
     }
     emit_pack(out, homes, registers, facts, numbers, writers, e, unit)
 }
@@ -139,7 +174,10 @@ fn emit_units(
     writers: &[u64],
     order: &[u64],
     count: usize,
-) -> Emitted {
+) -> Emitted
+    ensures { λ r. ⌜ state (now (out .exit)) (now (homes .exit)) (now (registers .exit)) r
+        ≡ emitUnitsState (now (facts .entry)) (now (numbers .entry)) (now (writers .entry)) (now (order .entry)) count (nothingIn (now (out .entry)) (now (homes .entry)) (now (registers .entry))) ⌝ }
+{
     let start = encode::nothing_written();
     let mut e = Emitted {
         written: start,
@@ -171,7 +209,10 @@ pub fn emission(
     order: &[u64],
     count: usize,
     live: u8,
-) -> Written {
+) -> Written
+    ensures { λ r. ⌜ listing (now (out .exit)) r
+        ≡ emissionIn (now (facts .entry)) (now (numbers .entry)) (now (writers .entry)) (now (order .entry)) count live (now (out .entry)) ⌝ }
+{
     let mut homes = [0u16; 257];
     let mut registers = [0u64; 576];
     let e = emit_units(

@@ -1,5 +1,9 @@
 // "A pack fetches": a current register that holds the tuple, else L, C or G.
 
+ghost use mathlib.Core.Path.{_≡_};
+ghost use Prim.Native.Nat.{_≤_};
+ghost use Rattle.lanes.specs.Homes.{inLanes};
+ghost use Rattle.fetch.specs.Fetching.{state, got, tupleInRow, tupleConstant, loadTuple, fetchState, fetchRightState, tupleIn};
 use encode::Written;
 use registers::Tuple;
 use units::Unit;
@@ -8,12 +12,14 @@ use units::Unit;
 // writes are done.
 pub struct Emitted {
     pub written: Written,
-    pub registers: usize,
+    pub registers: u8,
     pub done: u64,
 }
 
 // "ascending neighbours of one array"
-pub fn are_in_row(tuple: Tuple) -> bool {
+pub fn are_in_row(tuple: Tuple) -> bool
+    ensures { λ r. ⌜ r ≡ tupleInRow tuple ⌝ }
+{
     if codes::in_row(tuple.lanes[0], tuple.lanes[1]) {
         if tuple.count == 2 {
             return true;
@@ -25,7 +31,9 @@ pub fn are_in_row(tuple: Tuple) -> bool {
     false
 }
 
-fn are_constants(tuple: Tuple) -> bool {
+fn are_constants(tuple: Tuple) -> bool
+    ensures { λ r. ⌜ r ≡ tupleConstant tuple ⌝ }
+{
     if codes::is_constant(tuple.lanes[0]) {
         if codes::is_constant(tuple.lanes[1]) {
             if tuple.count == 2 {
@@ -40,7 +48,10 @@ fn are_constants(tuple: Tuple) -> bool {
 }
 
 // "else L for ascending neighbours of one array, else C for constants, else G"
-fn load(out: &mut [u8], homes: &mut [u16], w: Written, r: u8, tuple: Tuple) -> Written {
+fn load(out: &mut [u8], homes: &mut [u16], w: Written, r: u8, tuple: Tuple) -> Written
+    ensures { λ result. ⌜ inLanes (now (out .exit)) (now (homes .exit)) result
+        ≡ loadTuple tuple r (inLanes (now (out .entry)) (now (homes .entry)) w) ⌝ }
+{
     let k = tuple.count;
     let lanes = tuple.lanes;
     if are_in_row(tuple) {
@@ -56,7 +67,7 @@ fn load(out: &mut [u8], homes: &mut [u16], w: Written, r: u8, tuple: Tuple) -> W
 // What is emitted after a fetch, and the register that has the tuple.
 pub struct Fetched {
     pub emitted: Emitted,
-    pub register: usize,
+    pub register: u8,
 }
 
 pub fn fetch(
@@ -67,21 +78,24 @@ pub fn fetch(
     writers: &[u64],
     e: Emitted,
     tuple: Tuple,
-) -> Fetched {
+) -> Fetched
+    ensures { λ r. ⌜ got (state (now (out .exit)) (now (homes .exit)) (now (registers .exit)) (r .emitted)) (r .register)
+        ≡ fetchState (now (numbers .entry)) (now (writers .entry)) tuple (state (now (out .entry)) (now (homes .entry)) (now (registers .entry)) e) ⌝ }
+{
     let found = registers::holder(registers, e.registers, e.done, tuple);
     if found < registers::REGISTERS {
         return Fetched {
             emitted: e,
-            register: found,
+            register: found as u8,
         };
     }
     let r = e.registers;
     let before = e.written;
-    let written = load(out, homes, before, r as u8, tuple);
-    registers::hold(registers, r, numbers, writers, tuple, e.done);
+    let written = load(out, homes, before, r, tuple);
+    registers::hold(registers, r as usize, numbers, writers, tuple, e.done);
     let emitted = Emitted {
         written,
-        registers: r + 1,
+        registers: std::num::wrapping_add_u8(r, 1),
         done: e.done,
     };
     Fetched {
@@ -90,6 +104,7 @@ pub fn fetch(
     }
 }
 
+// A copy has no right.
 pub fn fetch_right(
     out: &mut [u8],
     homes: &mut [u16],
@@ -99,7 +114,10 @@ pub fn fetch_right(
     e: Emitted,
     tuple: Tuple,
     operation: u8,
-) -> Fetched {
+) -> Fetched
+    ensures { λ r. ⌜ got (state (now (out .exit)) (now (homes .exit)) (now (registers .exit)) (r .emitted)) (r .register)
+        ≡ fetchRightState (now (numbers .entry)) (now (writers .entry)) tuple operation (state (now (out .entry)) (now (homes .entry)) (now (registers .entry)) e) ⌝ }
+{
     if operation == 0 {
         return Fetched {
             emitted: e,
@@ -109,7 +127,10 @@ pub fn fetch_right(
     fetch(out, homes, registers, numbers, writers, e, tuple)
 }
 
-pub fn tuple_at(facts: &[u64], column: usize, unit: Unit) -> Tuple {
+pub fn tuple_at(facts: &[u64], column: usize, unit: Unit) -> Tuple
+    requires { ⌜ column ≤ 448 ⌝ }
+    ensures { λ r. ⌜ r ≡ tupleIn (now (facts .entry)) column unit ⌝ }
+{
     let lanes = [
         facts::fact(facts, column, unit.lanes[0] as usize),
         facts::fact(facts, column, unit.lanes[1] as usize),

@@ -155,13 +155,14 @@ fn make(block: Block, room: &mut [u8]) -> Made {
     let price = block_price(&facts, n);
     let packed = write_packed(block, n, &mut facts, &mut out);
     let w = choose(&mut out, &facts, n, packed, price);
-    if room.len() < w.size {
-        return refused(7, w.size);
+    let size = w.size as usize;
+    if room.len() < size {
+        return refused(7, size);
     }
-    copy_into(room, &out, w.size);
+    copy_into(room, &out, size);
     Made {
         status: 0,
-        size: w.size,
+        size,
         block: price,
         list: w.price,
     }

@@ -2,6 +2,10 @@
 //
 // The table has columns of 96: four lanes, their count, and what ends the register.
 
+ghost use mathlib.Core.Path.{_≡_};
+ghost use Prim.Native.Nat.{_<_, _≤_};
+ghost use Rattle.registers.specs.Table.{registerAt, setRegister, isCurrent, holdsTuple, servesAt, holderFrom, endings as endingsOf, holdTuple};
+
 pub const REGISTERS: usize = 96;
 
 // The operands of a unit at one position, or its destinations, by code; 0 where there is no lane.
@@ -18,7 +22,10 @@ pub struct Register {
     pub ends: u64,
 }
 
-fn register_at(registers: &[u64], r: usize) -> Register {
+fn register_at(registers: &[u64], r: usize) -> Register
+    requires { ⌜ r < 256 ⌝ }
+    ensures { λ result. ⌜ result ≡ registerAt (now (registers .entry)) r ⌝ }
+{
     let lanes = [
         rows::word_at(registers, r),
         rows::word_at(registers, r + 96),
@@ -33,7 +40,10 @@ fn register_at(registers: &[u64], r: usize) -> Register {
     }
 }
 
-fn set_register(registers: &mut [u64], r: usize, register: Register) {
+fn set_register(registers: &mut [u64], r: usize, register: Register)
+    requires { ⌜ r < 256 ⌝ }
+    ensures { λ result. ⌜ now (registers .exit) ≡ setRegister (now (registers .entry)) r register ⌝ }
+{
     rows::set_word(registers, r, register.lanes[0]);
     rows::set_word(registers, r + 96, register.lanes[1]);
     rows::set_word(registers, r + 192, register.lanes[2]);
@@ -43,12 +53,16 @@ fn set_register(registers: &mut [u64], r: usize, register: Register) {
 }
 
 // No statement that ends it is done.
-fn is_current(register: Register, done: u64) -> bool {
+fn is_current(register: Register, done: u64) -> bool
+    ensures { λ r. ⌜ r ≡ isCurrent register done ⌝ }
+{
     register.ends & done == 0
 }
 
 // "exactly this tuple"
-fn holds(register: Register, tuple: Tuple) -> bool {
+fn holds(register: Register, tuple: Tuple) -> bool
+    ensures { λ r. ⌜ r ≡ holdsTuple register tuple ⌝ }
+{
     if register.count == tuple.count {
         if register.lanes[0] == tuple.lanes[0] {
             if register.lanes[1] == tuple.lanes[1] {
@@ -62,22 +76,28 @@ fn holds(register: Register, tuple: Tuple) -> bool {
 }
 
 // "a current register that holds exactly this tuple"
-fn serves(register: Register, tuple: Tuple, done: u64) -> bool {
-    if is_current(register, done) {
-        holds(register, tuple)
-    } else {
-        false
+fn serves(registers: &[u64], r: usize, tuple: Tuple, done: u64) -> bool
+    requires { ⌜ r < 256 ⌝ }
+    ensures { λ result. ⌜ result ≡ servesAt (now (registers .entry)) r tuple done ⌝ }
+{
+    // most registers differ in the first lane already
+    if rows::word_at(registers, r) == tuple.lanes[0] {
+        let register = register_at(registers, r);
+        if is_current(register, done) {
+            return holds(register, tuple);
+        }
     }
+    false
 }
 
-pub fn holder(registers: &[u64], count: usize, done: u64, tuple: Tuple) -> usize {
+pub fn holder(registers: &[u64], count: u8, done: u64, tuple: Tuple) -> usize
+    ensures { λ result. ⌜ result ≡ holderFrom count 0 (now (registers .entry)) done tuple ⌝ }
+{
+    let n = count as usize;
     let mut r: usize = 0;
-    while r < count {
-        // most registers differ in the first lane already
-        if rows::word_at(registers, r) == tuple.lanes[0] {
-            if serves(register_at(registers, r), tuple, done) {
-                return r;
-            }
+    while r < n {
+        if serves(registers, r, tuple, done) {
+            return r;
         }
         r += 1;
     }
@@ -85,7 +105,9 @@ pub fn holder(registers: &[u64], count: usize, done: u64, tuple: Tuple) -> usize
 }
 
 // The statements not yet done that write one of the tuple's places.
-fn endings(numbers: &[u8], writers: &[u64], tuple: Tuple, done: u64) -> u64 {
+fn endings(numbers: &[u8], writers: &[u64], tuple: Tuple, done: u64) -> u64
+    ensures { λ r. ⌜ r ≡ endingsOf (now (numbers .entry)) (now (writers .entry)) tuple done ⌝ }
+{
     let first = facts::naming(numbers, writers, tuple.lanes[0])
         | facts::naming(numbers, writers, tuple.lanes[1]);
     let second = facts::naming(numbers, writers, tuple.lanes[2])
@@ -102,7 +124,10 @@ pub fn hold(
     writers: &[u64],
     tuple: Tuple,
     done: u64,
-) {
+)
+    requires { ⌜ r < 256 ⌝ }
+    ensures { λ result. ⌜ now (registers .exit) ≡ holdTuple (now (numbers .entry)) (now (writers .entry)) tuple done r (now (registers .entry)) ⌝ }
+{
     let lanes = tuple.lanes;
     let ends = endings(numbers, writers, tuple, done);
     set_register(
