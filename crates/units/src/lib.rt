@@ -5,7 +5,7 @@
 
 ghost use mathlib.Core.Path.{_≡_};
 ghost use mathlib.Core.List.{[], _∷_};
-ghost use Prim.Native.Nat.{_<_};
+ghost use Prim.Native.Nat.{_<_, _+_, _*_};
 ghost use lib.ListN.{getD, set as replaced};
 ghost use Rattle.units.specs.Lanes.{lanesOf, lanesWord, wordLanes, lowerLane, lowestLane, memberLane, memberLanes, neededLanes};
 
@@ -31,11 +31,18 @@ pub fn unit_at(units: &[u64], at: usize) -> Unit
     }
 }
 
+// Two lanes beside each other.
+fn beside(low: u8, high: u8) -> u64
+    ensures { λ r. ⌜ (r ≡ low + 256 * high) × (r < 65536) ⌝ }
+{
+    low as u64 + 256 * high as u64
+}
+
 pub fn set_unit(units: &mut [u64], at: usize, unit: Unit)
     ensures { λ r. ⌜ now (units .exit) ≡ replaced (now (units .entry)) at (lanesWord unit) ⌝ }
 {
-    let first = unit.lanes[0] as u64 + 256 * unit.lanes[1] as u64;
-    let second = unit.lanes[2] as u64 + 256 * unit.lanes[3] as u64;
+    let first = beside(unit.lanes[0], unit.lanes[1]);
+    let second = beside(unit.lanes[2], unit.lanes[3]);
     let word = first + 65536 * second + 4294967296 * unit.count as u64;
     rows::set_word(units, at, word);
 }
@@ -60,18 +67,18 @@ pub fn pack_of_two(s: usize, t: usize) -> Unit
     }
 }
 
-fn lower(s: usize, t: usize) -> usize
+fn lower(s: u8, t: u8) -> u8
     ensures { λ r. ⌜ r ≡ lowerLane s t ⌝ }
 {
     if s < t { s } else { t }
 }
 
 // "A unit goes by its lowest statement number." A lane that is not there has a higher one.
-fn lowest(unit: Unit) -> usize
-    ensures { λ r. ⌜ (r ≡ lowestLane unit) × (r < 256) ⌝ }
+fn lowest(unit: Unit) -> u8
+    ensures { λ r. ⌜ r ≡ lowestLane unit ⌝ }
 {
-    let first = lower(unit.lanes[0] as usize, unit.lanes[1] as usize);
-    let second = lower(unit.lanes[2] as usize, unit.lanes[3] as usize);
+    let first = lower(unit.lanes[0], unit.lanes[1]);
+    let second = lower(unit.lanes[2], unit.lanes[3]);
     lower(first, second)
 }
 
@@ -110,7 +117,7 @@ pub fn wait(direct: &[u64], units: &mut [u64], needs: &mut [u64], unit: Unit) ->
         × (r ≡ memberLane (lowestLane unit))) ⌝ }
 {
     let low = lowest(unit);
-    set_unit(units, low, unit);
-    rows::set_word(needs, low, needed(direct, unit));
-    member(low as u8)
+    set_unit(units, low as usize, unit);
+    rows::set_word(needs, low as usize, needed(direct, unit));
+    member(low)
 }

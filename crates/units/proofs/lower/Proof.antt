@@ -1,0 +1,13 @@
+-- `units::lower` meets its contract.
+use borrow.Author.Tests.{le-ltb, lt-ltb}
+use Rattle.units.proofs.lower.Statement.{statement}
+use Rattle.units.proofs.lower.Tie as tie
+
+returns : tie.Need-returns
+returns c = simp (lt-ltb _ _ (c .if1 .taken))
+
+returns-2 : tie.Need-returns-2
+returns-2 c = simp (le-ltb _ _ (c .if1 .left))
+
+pub lower-spec : {M : Type 1} → statement M
+lower-spec = tie.close (tie.spec returns returns-2)
