@@ -121,7 +121,7 @@ or-none none n e = e
 or-none (some s) n e = refl
 
 -- what holds of every pair holds of each by its number, and its partner is found by its left
-every-number : (P : Pair → Type 0) (pairs : List Pair) (i : ℕ) (d : Pair) → Every P pairs → i < length pairs → P (getD pairs i d)
+pub every-number : (P : Pair → Type 0) (pairs : List Pair) (i : ℕ) (d : Pair) → Every P pairs → i < length pairs → P (getD pairs i d)
 every-number P [] i d e h = absurd (omega arith)
 every-number P (p ∷ pairs) zero d e h = e .0
 every-number P (p ∷ pairs) (suc i) d e h = every-number P pairs i d (e .1) (omega arith)
