@@ -1,12 +1,12 @@
 -- The laws of walks: who is the lowest and the highest of a set, what is left behind the lowest, and that a walk is a count with a test.
 use mathlib.Core.Path.{_≡_, refl, sym, ap, _∙_}
 use mathlib.Core.Logic.{_⊎_, inl, inr}
-use mathlib.Core.Bool.{Bool, true, false, _&&_, not}
+use mathlib.Core.Bool.{Bool, true, false, _&&_, not, and-true, and-false}
 use Prim.Native.Nat.{ℕ, zero, suc, _+_, _-_, _*_, _/_, _%_, _^_, _≤_, _<_}
-use native.Mathlib.Nat.{pow-suc, zero-add}
+use native.Mathlib.Nat.{pow-suc, lt-of-le-of-lt, zero-add}
 use native.Mathlib.Omega.{arith}
 use lib.Dec.{eqb, ltb, eqb·zero-suc, eqb·suc-zero, eqb·suc-suc}
-use lib.Bits.{and-step, and-self}
+use lib.Bits.{and-step, and-self, and-le-l, and-le-r}
 use lib.Count.{leadingZeros, trailingZeros, leading-unique}
 use borrow.Author.Tests.{eqb-true, eqb-false, lt-ltb, le-ltb, eq-eqb, ne-eqb}
 use Rattle.basics.specs.Choice.{pick}
@@ -56,21 +56,13 @@ twice-higher s i =
     let half : s * 2 / 2 ≡ s = omega arith in
     sym (has-half (s * 2) i) ∙ rw half
 
-and-true : (a : Bool) → a ≡ a && true
-and-true true = refl
-and-true false = refl
-
-and-false : (a : Bool) → false ≡ a && false
-and-false true = refl
-and-false false = refl
-
 -- who is left behind the lowest: all the others
 pub has-behind : (s i j : ℕ) → has s i ≡ true → ((j : ℕ) → j < i → has s j ≡ false) → has (behindFirst s) j ≡ has s j && not (eqb i j)
-has-behind s zero zero e none = rw (behind-odd s (odd s e)) (twice-lowest (s / 2) ∙ and-false (has s 0))
+has-behind s zero zero e none = rw (behind-odd s (odd s e)) (twice-lowest (s / 2) ∙ sym (and-false (has s 0)))
 has-behind s zero (suc j) e none =
-    rw (behind-odd s (odd s e), eqb·zero-suc j) (twice-higher (s / 2) j ∙ has-half s j ∙ and-true (has s (suc j)))
+    rw (behind-odd s (odd s e), eqb·zero-suc j) (twice-higher (s / 2) j ∙ has-half s j ∙ sym (and-true (has s (suc j))))
 has-behind s (suc i) zero e none =
-    rw (behind-even s (even s (none 0 (omega arith))), eqb·suc-zero i) (twice-lowest (behindFirst (s / 2)) ∙ sym (none 0 (omega arith)) ∙ and-true (has s 0))
+    rw (behind-even s (even s (none 0 (omega arith))), eqb·suc-zero i) (twice-lowest (behindFirst (s / 2)) ∙ sym (none 0 (omega arith)) ∙ sym (and-true (has s 0)))
 has-behind s (suc i) (suc j) e none =
     rw (behind-even s (even s (none 0 (omega arith))), ← has-half s j, eqb·suc-suc i j)
     (twice-higher (behindFirst (s / 2)) j
@@ -80,10 +72,10 @@ still-none : (s i j : ℕ) → has s i ≡ true → ((j : ℕ) → j < i → has
 still-none s i j e none out = has-behind s i j e none ∙ rw out
 
 gone : (s i j : ℕ) → has s i ≡ true → ((j : ℕ) → j < i → has s j ≡ false) → i ≡ j → has (behindFirst s) j ≡ false
-gone s i j e none this = has-behind s i j e none ∙ rw (eq-eqb i j this) (sym (and-false (has s j)))
+gone s i j e none this = has-behind s i j e none ∙ rw (eq-eqb i j this) (and-false (has s j))
 
 kept : (s i j : ℕ) → has s i ≡ true → ((j : ℕ) → j < i → has s j ≡ false) → i < j → has (behindFirst s) j ≡ has s j
-kept s i j e none other = has-behind s i j e none ∙ rw (ne-eqb i j (omega arith)) (sym (and-true (has s j)))
+kept s i j e none other = has-behind s i j e none ∙ rw (ne-eqb i j (omega arith)) (and-true (has s j))
 
 -- f at i where i is in the set
 abbrev pub atMember {ℓ} : {A : Type ℓ} → ℕ → (ℕ → A → A) → ℕ → A → A
@@ -91,9 +83,11 @@ atMember s f i a = elim (has s i) [ true ↦ f i a | false ↦ a ]
 
 module _ {ℓ} {A : Type ℓ} where
   walk-more : (n s : ℕ) (f : ℕ → A → A) (a : A) (i : ℕ) → eqb s 0 ≡ false → trailingZeros 64 s ≡ i → walk (suc n) s f a ≡ walk n (behindFirst s) f (f i a)
+  unfolding walk
   walk-more n s f a i some lowest = rw (walk, some, lowest)
 
   walk-none : (n : ℕ) (f : ℕ → A → A) (a : A) → walk n 0 f a ≡ a
+  unfolding walk
   walk-none zero f a = refl
   walk-none (suc n) f a = refl
 
@@ -234,3 +228,42 @@ has-behindFirst s j small = by (eqb s nobody) refl
     by : (t : Bool) → eqb s nobody ≡ t → has (behindFirst s) j ≡ has s j && not (eqb (trailingZeros 64 s) j)
     by true e = rw (eqb-true s 0 e, has-nobody j)
     by false e = let lowest = lowest-first s small e in has-behind s (trailingZeros 64 s) j (lowest .within) (lowest .first)
+
+none-up-to : (s i j : ℕ) → Lowest s i → j ≤ i → has (behindFirst s) j ≡ false
+none-up-to s i j lowest h = by (below-or-not j i)
+  where
+    by : (j < i) ⊎ (i ≤ j) → has (behindFirst s) j ≡ false
+    by (inl low) = still-none s i j (lowest .within) (lowest .first) (lowest .first j low)
+    by (inr high) = gone s i j (lowest .within) (lowest .first) (omega arith)
+
+-- What a loop over a set does: it stops at nobody, goes on with those behind the lowest, and those are fewer.
+module _ {ℓ} {A : Type ℓ} where
+  pub walk-end : (s : ℕ) (f : ℕ → A → A) (a : A) → s ≡ nobody → walk 64 s f a ≡ a
+  walk-end s f a e = rw e (walk-none 64 f a)
+
+  pub walk-next : (s : ℕ) (f : ℕ → A → A) (a : A) → s < 2 ^ 64 → (s ≡ nobody → ⊥) → walk 64 s f a ≡ walk 64 (behindFirst s) f (f (trailingZeros 64 s) a)
+  walk-next s f a small some =
+      walk-more 63 s f a (trailingZeros 64 s) (ne-eqb s nobody some) refl ∙ rest 63 (omega arith) ∙ sym (rest 64 (omega arith))
+    where
+      i : ℕ
+      i = trailingZeros 64 s
+
+      below : i < 64
+      below = lowest-below s small (ne-eqb s nobody some)
+
+      lowest : Lowest s i
+      lowest = lowest-first s small (ne-eqb s nobody some)
+
+      -- 63 numbers are enough for what is left
+      rest : (n : ℕ) → 63 ≤ n → walk n (behindFirst s) f (f i a) ≡ count (64 - suc i) (suc i) (atMember (behindFirst s) f) (f i a)
+      rest n enough =
+          let room : i < 64 = below in
+          walk-from (64 - suc i) (suc i) n (behindFirst s) f (f i a) (omega arith) (omega arith)
+          (λ j low. none-up-to s i j lowest (omega arith))
+          (λ j high. still-none s i j (lowest .within) (lowest .first) (has-beyond 64 s j small (omega arith)))
+
+pub behind-fewer : (s : ℕ) → (s ≡ nobody → ⊥) → behindFirst s < s
+behind-fewer s some = omega (arith, and-le-r s (s - 1))
+
+pub behind-small : (k s : ℕ) → s < 2 ^ k → behindFirst s < 2 ^ k
+behind-small k s small = lt-of-le-of-lt (and-le-l s (s - 1)) small

@@ -15,6 +15,6 @@ abbrev pub highest : ℕ → ℕ
 highest s = pick (eqb s 0) 64 (63 - leadingZeros 64 s)
 
 -- f at each of the set, the lowest first, at most n of them. Of a set below 2 ^ n this is what `count n 0` does with a test of `has s`.
-abbrev pub walk {ℓ} : {A : Type ℓ} → ℕ → ℕ → (ℕ → A → A) → A → A
+unfoldable pub walk {ℓ} : {A : Type ℓ} → ℕ → ℕ → (ℕ → A → A) → A → A
 walk zero s f a = a
 walk (suc n) s f a = elim (eqb s 0) [ true ↦ a | false ↦ walk n (behindFirst s) f (f (trailingZeros 64 s) a) ]
