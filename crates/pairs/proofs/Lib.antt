@@ -1,3 +1,5 @@
 pub mod Tables
 pub mod Leading
 pub mod May
+pub mod Neighbours
+pub mod Seeding
