@@ -7,7 +7,7 @@
 // does not name.
 
 ghost use mathlib.Core.Path.{_≡_};
-ghost use Prim.Native.Nat.{_≤_, _<_};
+ghost use Prim.Native.Nat.{_+_, _≤_, _<_};
 ghost use lib.ListN.{getD};
 ghost use Rattle.facts.specs.Facts.{factAt, stateFacts, statedFacts};
 ghost use Rattle.facts.specs.Places.{namedTables, namePlace, namePlaces, naming as namingThis};
@@ -88,8 +88,8 @@ fn place_number(numbers: &[u8], code: u64) -> usize
 // Back comes how many numbers are given.
 fn name_place(numbers: &mut [u8], named: &mut [u64], code: u64, i: usize, given: u8) -> u8
     requires { ⌜ (i < 64) × (given < 192) ⌝ }
-    ensures { λ r. ⌜ namedTables (now (numbers .exit)) (now (named .exit)) r
-        ≡ namePlace code i (namedTables (now (numbers .entry)) (now (named .entry)) given) ⌝ }
+    ensures { λ r. ⌜ (namedTables (now (numbers .exit)) (now (named .exit)) r
+        ≡ namePlace code i (namedTables (now (numbers .entry)) (now (named .entry)) given)) × (r ≤ given + 1) ⌝ }
 {
     let at = code as usize;
     if at >= numbers.len() {
@@ -119,8 +119,8 @@ pub fn name_places(
     before: u8,
 ) -> u8
     requires { ⌜ (n ≤ 64) × ((before ≤ 128) × (column ≤ 448)) ⌝ }
-    ensures { λ r. ⌜ namedTables (now (numbers .exit)) (now (named .exit)) r
-        ≡ namePlaces (now (facts .entry)) column n (namedTables (now (numbers .entry)) (now (named .entry)) before) ⌝ }
+    ensures { λ r. ⌜ (namedTables (now (numbers .exit)) (now (named .exit)) r
+        ≡ namePlaces (now (facts .entry)) column n (namedTables (now (numbers .entry)) (now (named .entry)) before)) × (r ≤ before + n) ⌝ }
 {
     let mut given = before;
     let mut i: usize = 0;
