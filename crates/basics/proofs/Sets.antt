@@ -1,7 +1,7 @@
 -- The laws of sets: who is in nobody, in one alone, in two joined, in what two share, in what only one of two has, and in all below a
 -- number; and that sets with the same members are the same number.
 use mathlib.Core.Path.{_≡_, refl, sym, ap, _∙_}
-use mathlib.Core.Bool.{true, false, _&&_, _||_, not, false≢true}
+use mathlib.Core.Bool.{Bool, true, false, _&&_, _||_, not, false≢true}
 use Prim.Native.Nat.{ℕ, zero, suc, _+_, _-_, _/_, _%_, _^_, _≤_, _<_, max, min}
 use native.Mathlib.Nat.{zero-div, pow-suc, div-eq-of-lt, lt-of-lt-of-le}
 use native.Mathlib.Omega.{arith}
@@ -149,3 +149,17 @@ has-beyond n s i small beyond =
 pub set-bound : (n s : ℕ) → ((i : ℕ) → n ≤ i → has s i ≡ false) → s < 2 ^ n
 set-bound zero s e = omega (arith, no-one s (λ i. e i (omega arith)))
 set-bound (suc n) s e = omega (arith, pow-suc 2 n, set-bound n (s / 2) (λ i beyond. has-half s i ∙ e (suc i) (omega arith)))
+
+-- it does not matter which two are joined first
+pub join-assoc : (a b c : ℕ) → join (join a b) c ≡ join a (join b c)
+join-assoc a b c =
+    same-sets (join (join a b) c) (join a (join b c)) λ t.
+    has-join (join a b) c t
+    ∙ ap (λ (x : Bool). x || has c t) (has-join a b t)
+    ∙ or-assoc (has a t) (has b t) (has c t)
+    ∙ ap (λ (x : Bool). has a t || x) (sym (has-join b c t))
+    ∙ sym (has-join a (join b c) t)
+  where
+    or-assoc : (x y z : Bool) → (x || y) || z ≡ x || (y || z)
+    or-assoc true y z = refl
+    or-assoc false y z = refl

@@ -1,5 +1,12 @@
 // "Schedule": the order of the units, and which packs are dissolved on the way.
 
+ghost use mathlib.Core.Path.{_≡_};
+ghost use Prim.Native.Nat.{_+_, _≤_, _<_};
+ghost use lib.ListN.{getD, set as replaced};
+ghost use Rattle.basics.specs.Sets.{join};
+ghost use Rattle.units.specs.Lanes.{lanesWord, wordLanes, memberLane, memberLanes};
+ghost use Rattle.schedule.specs.Stages.{stage, wordReady, readyAt, packAt, lowestWaiting, withoutOne, written, singleWord, singleNeed, inLanes, withSingle, stepped, scheduledTables};
+
 // The units that wait, by lowest number, the statements that are scheduled, and how many units are.
 pub struct Progress {
     pub waiting: u64,
@@ -8,11 +15,15 @@ pub struct Progress {
 }
 
 // "It is ready when all that its statements depend on is scheduled."
-fn is_ready(needed: u64, scheduled: u64) -> bool {
+fn is_ready(needed: u64, scheduled: u64) -> bool
+    ensures { λ r. ⌜ r ≡ wordReady needed scheduled ⌝ }
+{
     needed & scheduled == needed
 }
 
-fn lowest_ready(needs: &[u64], waiting: u64, scheduled: u64) -> usize {
+fn lowest_ready(needs: &[u64], waiting: u64, scheduled: u64) -> usize
+    ensures { λ r. ⌜ r ≡ lowestWaiting (readyAt (now (needs .entry)) scheduled) waiting ⌝ }
+{
     let mut rest = waiting;
     while rest != 0 {
         let at = rows::first(rest);
@@ -24,7 +35,9 @@ fn lowest_ready(needs: &[u64], waiting: u64, scheduled: u64) -> usize {
     rows::NONE
 }
 
-fn lowest_pack(units: &[u64], waiting: u64) -> usize {
+fn lowest_pack(units: &[u64], waiting: u64) -> usize
+    ensures { λ r. ⌜ r ≡ lowestWaiting (packAt (now (units .entry))) waiting ⌝ }
+{
     let mut rest = waiting;
     while rest != 0 {
         let at = rows::first(rest);
@@ -37,7 +50,10 @@ fn lowest_pack(units: &[u64], waiting: u64) -> usize {
     rows::NONE
 }
 
-fn without(set: u64, i: usize) -> u64 {
+fn without(set: u64, i: usize) -> u64
+    requires { ⌜ i < 64 ⌝ }
+    ensures { λ r. ⌜ r ≡ withoutOne set i ⌝ }
+{
     if rows::has(set, i) {
         set ^ rows::only(i)
     } else {
@@ -45,7 +61,13 @@ fn without(set: u64, i: usize) -> u64 {
     }
 }
 
-fn take(units: &[u64], order: &mut [u64], progress: Progress, at: usize) -> Progress {
+fn take(units: &[u64], order: &mut [u64], progress: Progress, at: usize) -> Progress
+    requires { ⌜ (at < 64) × (progress .count < 128) ⌝ }
+    ensures { λ r. ⌜ (now (order .exit) ≡ replaced (now (order .entry)) (progress .count) (lanesWord (wordLanes (getD (now (units .entry)) at 0))))
+        × ((r .waiting ≡ withoutOne (progress .waiting) at)
+        × ((r .scheduled ≡ join (progress .scheduled) (memberLanes (wordLanes (getD (now (units .entry)) at 0))))
+        × (r .count ≡ progress .count + 1))) ⌝ }
+{
     let unit = units::unit_at(units, at);
     units::set_unit(order, progress.count, unit);
     Progress {
@@ -55,7 +77,11 @@ fn take(units: &[u64], order: &mut [u64], progress: Progress, at: usize) -> Prog
     }
 }
 
-fn wait_single(direct: &[u64], units: &mut [u64], needs: &mut [u64], lane: u8) -> u64 {
+fn wait_single(direct: &[u64], units: &mut [u64], needs: &mut [u64], lane: u8) -> u64
+    ensures { λ r. ⌜ (now (units .exit) ≡ written singleWord lane (now (units .entry)))
+        × ((now (needs .exit) ≡ written (singleNeed (now (direct .entry))) lane (now (needs .entry)))
+        × (r ≡ memberLane lane)) ⌝ }
+{
     if lane < 64 {
         return units::wait(direct, units, needs, units::single(lane as usize));
     }
@@ -68,7 +94,13 @@ fn dissolve(
     needs: &mut [u64],
     progress: Progress,
     at: usize,
-) -> Progress {
+) -> Progress
+    ensures { λ r. ⌜ (now (units .exit) ≡ inLanes (written singleWord) (getD (now (units .entry)) at 0) (now (units .entry)))
+        × ((now (needs .exit) ≡ inLanes (written (singleNeed (now (direct .entry)))) (getD (now (units .entry)) at 0) (now (needs .entry)))
+        × ((r .waiting ≡ inLanes withSingle (getD (now (units .entry)) at 0) (progress .waiting))
+        × ((r .scheduled ≡ progress .scheduled)
+        × (r .count ≡ progress .count)))) ⌝ }
+{
     let unit = units::unit_at(units, at);
     let first = wait_single(direct, units, needs, unit.lanes[0]);
     let second = wait_single(direct, units, needs, unit.lanes[1]);
@@ -89,7 +121,11 @@ fn step(
     needs: &mut [u64],
     order: &mut [u64],
     progress: Progress,
-) -> Progress {
+) -> Progress
+    requires { ⌜ progress .count < 128 ⌝ }
+    ensures { λ r. ⌜ stage (now (units .exit)) (now (needs .exit)) (now (order .exit)) (r .waiting) (r .scheduled) (r .count)
+        ≡ stepped (now (direct .entry)) (stage (now (units .entry)) (now (needs .entry)) (now (order .entry)) (progress .waiting) (progress .scheduled) (progress .count)) ⌝ }
+{
     let ready = lowest_ready(needs, progress.waiting, progress.scheduled);
     if ready < rows::NONE {
         return take(units, order, progress, ready);
@@ -109,7 +145,11 @@ pub fn schedule(
     needs: &mut [u64],
     waiting: u64,
     order: &mut [u64],
-) -> usize {
+) -> usize
+    requires { ⌜ n ≤ 64 ⌝ }
+    ensures { λ r. ⌜ (now (order .exit) ≡ scheduledTables n (now (direct .entry)) (now (units .entry)) (now (needs .entry)) waiting (now (order .entry)) .order)
+        × (r ≡ scheduledTables n (now (direct .entry)) (now (units .entry)) (now (needs .entry)) waiting (now (order .entry)) .size) ⌝ }
+{
     let mut progress = Progress {
         waiting,
         scheduled: 0,

@@ -1,0 +1,5 @@
+pub mod Searches
+pub mod Words
+pub mod Members
+pub mod Taking
+pub mod Dissolving
