@@ -3,3 +3,4 @@ pub mod Words
 pub mod Members
 pub mod Taking
 pub mod Dissolving
+pub mod Steps
