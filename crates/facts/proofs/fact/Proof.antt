@@ -15,14 +15,12 @@ returns c =
     simp (
       c .word-at .ensures,
       lt-ltb _ _ (c .before .if1 .taken),
-      lt-leb _ _ (c .before .if1 .taken),
     )
 
 returns-2 : tie.Need-returns-2
 returns-2 c =
     simp (
       le-ltb _ _ (c .if1 .left),
-      le-leb _ _ (c .if1 .left),
     )
 
 pub fact-spec : {M : Type 1} → statement M
