@@ -1,0 +1,4 @@
+pub mod Direct
+pub mod Reaching
+pub mod Columns
+pub mod Defining
