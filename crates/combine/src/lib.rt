@@ -1,9 +1,15 @@
 // "Combination": chains of pairs, cut into units.
 
+ghost use mathlib.Core.Path.{_≡_};
+ghost use Prim.Native.Nat.{_≤_, _<_};
+ghost use Rattle.units.specs.Lanes.{lanesOf};
+ghost use Rattle.combine.specs.Cutting.{tables, fourApart, nextUnit, lastLane, cutAlong, cutFrom, combined};
 use units::Unit;
 
 // "pairwise independent", of four
-fn pairwise(reached: &[u64], a: usize, b: usize, c: usize, d: usize) -> bool {
+fn pairwise(reached: &[u64], a: usize, b: usize, c: usize, d: usize) -> bool
+    ensures { λ r. ⌜ r ≡ fourApart (now (reached .entry)) a b c d ⌝ }
+{
     if reach::independent(reached, a, b) {
         if reach::independent(reached, a, c) {
             if reach::independent(reached, a, d) {
@@ -20,7 +26,10 @@ fn pairwise(reached: &[u64], a: usize, b: usize, c: usize, d: usize) -> bool {
 
 // "the next four statements if at least four remain and these are pairwise independent, else the
 // next two if at least two remain, else one single"
-fn next_unit(reached: &[u64], next: &[u8], a: usize) -> Unit {
+fn next_unit(reached: &[u64], next: &[u8], a: usize) -> Unit
+    requires { ⌜ a < 256 ⌝ }
+    ensures { λ r. ⌜ r ≡ lanesOf (nextUnit (now (reached .entry)) (now (next .entry)) a) ⌝ }
+{
     let b = rows::number_at(next, a);
     if b == rows::NONE {
         return units::single(a);
@@ -39,7 +48,9 @@ fn next_unit(reached: &[u64], next: &[u8], a: usize) -> Unit {
     units::pack_of_two(a, b)
 }
 
-fn last_lane(unit: Unit) -> usize {
+fn last_lane(unit: Unit) -> usize
+    ensures { λ r. ⌜ r ≡ lastLane unit ⌝ }
+{
     if unit.count == 4 {
         return unit.lanes[3] as usize;
     }
@@ -59,7 +70,11 @@ fn cut(
     units: &mut [u64],
     needs: &mut [u64],
     before: u64,
-) -> u64 {
+) -> u64
+    requires { ⌜ start < 256 ⌝ }
+    ensures { λ r. ⌜ tables (now (units .exit)) (now (needs .exit)) r
+        ≡ cutAlong n (now (reached .entry)) (now (direct .entry)) (now (next .entry)) start (tables (now (units .entry)) (now (needs .entry)) before) ⌝ }
+{
     let mut waiting = before;
     let mut at = start;
     let mut i: usize = 0;
@@ -86,7 +101,11 @@ fn cut_from(
     units: &mut [u64],
     needs: &mut [u64],
     before: u64,
-) -> u64 {
+) -> u64
+    requires { ⌜ s < 256 ⌝ }
+    ensures { λ r. ⌜ tables (now (units .exit)) (now (needs .exit)) r
+        ≡ cutFrom n (now (reached .entry)) (now (direct .entry)) (now (next .entry)) rights s (tables (now (units .entry)) (now (needs .entry)) before) ⌝ }
+{
     if rows::has(rights, s) {
         return before;
     }
@@ -101,7 +120,11 @@ pub fn combine(
     rights: u64,
     units: &mut [u64],
     needs: &mut [u64],
-) -> u64 {
+) -> u64
+    requires { ⌜ n ≤ 64 ⌝ }
+    ensures { λ r. ⌜ tables (now (units .exit)) (now (needs .exit)) r
+        ≡ combined n reached (now (direct .entry)) (now (next .entry)) rights (tables (now (units .entry)) (now (needs .entry)) 0) ⌝ }
+{
     let mut waiting: u64 = 0;
     let mut s: usize = 0;
     while s < n {

@@ -1,0 +1,3 @@
+pub mod Waiting
+pub mod Cutting
+pub mod Tied

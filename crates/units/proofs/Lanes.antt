@@ -1,0 +1,141 @@
+-- Units by value and as words: what is read off four lanes is what is said of the list of the statements in them, and a word that is read
+-- back gives the unit that was written.
+use mathlib.Core.Path.{_≡_, refl, sym, ap, ap₂, _∙_}
+use mathlib.Core.Logic.{_⊎_, inl, inr}
+use mathlib.Core.Bool.{Bool, true, false, _||_}
+use mathlib.Core.List.{List, [], _∷_}
+use Prim.Native.Nat.{ℕ, _+_, _*_, _/_, _≤_, _<_, min}
+use native.Mathlib.Omega.{arith}
+use lib.Bits.{or-zero-l, or-zero-r}
+use lib.Dec.{ltb}
+use lib.ListN.{length, getD}
+use borrow.Author.Tests.{ltb-true, ltb-false, lt-ltb}
+use Rattle.basics.specs.Choice.{pick}
+use Rattle.basics.specs.Sets.{nobody, only, join, has}
+use Rattle.basics.proofs.Sets.{has-join, same-sets}
+use Rattle.meaning.specs.declared.Statement.{Statement}
+use Rattle.meaning.specs.Schedule.{lowest, withUnit}
+use Rattle.theorems.specs.Units.{Fits}
+use Rattle.units.specs.declared.Unit.{Unit as Lanes}
+use Rattle.units.specs.Words.{unitWord}
+use Rattle.units.specs.Waiting.{neededBy}
+use Rattle.units.specs.Lanes.{lanesOf, wordLanes, lowerLane, lowestLane, memberLane, memberLanes, neededLanes}
+
+-- one, two or four statements, by numbers below 64
+pub data Laned : List ℕ → Type 0 where
+  one : {a : ℕ} → a < 64 → Laned (a ∷ [])
+  two : {a b : ℕ} → a < 64 → b < 64 → Laned (a ∷ b ∷ [])
+  four : {a b c d : ℕ} → a < 64 → b < 64 → c < 64 → d < 64 → Laned (a ∷ b ∷ c ∷ d ∷ [])
+
+sized : (k : ℕ) → (k ≡ 1) ⊎ ((k ≡ 2) ⊎ (k ≡ 4)) → (0 < k) × (k ≤ 4) × (k ≡ 3 → ⊥)
+sized k (inl e) = omega arith
+sized k (inr (inl e)) = omega arith
+sized k (inr (inr e)) = omega arith
+
+-- units that fit are such
+pub fits-laned : (ss : List Statement) (unit : List ℕ) → length ss ≤ 64 → Fits ss unit → Laned unit
+fits-laned ss [] small fits = let size = sized 0 (fits .lanes) in absurd (omega (arith, size .0))
+fits-laned ss (a ∷ []) small fits = one {a = a} (omega (arith, fits .in-range .0))
+fits-laned ss (a ∷ b ∷ []) small fits = two {a = a} {b = b} (omega (arith, fits .in-range .0)) (omega (arith, fits .in-range .1 .0))
+fits-laned ss (a ∷ b ∷ c ∷ []) small fits = absurd (sized 3 (fits .lanes) .2 refl)
+fits-laned ss (a ∷ b ∷ c ∷ d ∷ []) small fits =
+    four {a = a} {b = b} {c = c} {d = d} (omega (arith, fits .in-range .0)) (omega (arith, fits .in-range .1 .0)) (omega (arith, fits .in-range .1 .1 .0))
+    (omega (arith, fits .in-range .1 .1 .1 .0))
+fits-laned ss (a ∷ b ∷ c ∷ d ∷ e ∷ rest) small fits =
+    let size = sized (length (a ∷ b ∷ c ∷ d ∷ e ∷ rest)) (fits .lanes) in
+    absurd (omega (arith, size .1))
+
+-- the unit of four lanes and a count
+abbrev lanesBy : ℕ → ℕ → ℕ → ℕ → ℕ → Lanes
+lanesBy a b c d k = record { lanes = a ∷ b ∷ c ∷ d ∷ []; count = k }
+
+same-lanes : {a b c d k a′ b′ c′ d′ k′ : ℕ} → a ≡ a′ → b ≡ b′ → c ≡ c′ → d ≡ d′ → k ≡ k′ → lanesBy a b c d k ≡ lanesBy a′ b′ c′ d′ k′
+same-lanes e f g h i = rw (e, f, g, h, i)
+
+-- Reading back the word of a unit gives its lanes and count.
+pub word-read : (a b c d k : ℕ) → a < 256 → b < 256 → c < 256 → d < 256 → k < 256
+    → wordLanes (a + 256 * b + 65536 * (c + 256 * d) + 4294967296 * k) ≡ lanesBy a b c d k
+word-read a b c d k ha hb hc hd hk =
+    let word = a + 256 * b + 65536 * (c + 256 * d) + 4294967296 * k in
+    let behind-one : word / 256 ≡ b + 256 * (c + 256 * d + 65536 * k) = omega arith in
+    let behind-two : word / 65536 ≡ c + 256 * (d + 256 * k) = omega arith in
+    let behind-three : word / 16777216 ≡ d + 256 * k = omega arith in
+    let behind-four : word / 4294967296 ≡ k = omega arith in
+    same-lanes (omega arith) (rw behind-one (omega arith)) (rw behind-two (omega arith)) (rw behind-three (omega arith)) (rw behind-four (omega arith))
+
+pub lanes-read : {unit : List ℕ} → Laned unit → wordLanes (unitWord unit) ≡ lanesOf unit
+lanes-read (one {a} ha) = word-read a 64 64 64 1 (omega arith) (omega arith) (omega arith) (omega arith) (omega arith)
+lanes-read (two {a} {b} ha hb) = word-read a b 64 64 2 (omega arith) (omega arith) (omega arith) (omega arith) (omega arith)
+lanes-read (four {a} {b} {c} {d} ha hb hc hd) = word-read a b c d 4 (omega arith) (omega arith) (omega arith) (omega arith) (omega arith)
+
+-- "A unit goes by its lowest statement number."
+lower-min : (s t : ℕ) → lowerLane s t ≡ min s t
+lower-min s t = either (ltb s t) refl
+  where
+    either : (test : Bool) → ltb s t ≡ test → pick test s t ≡ min s t
+    either true e = omega (arith, ltb-true s t e)
+    either false e = omega (arith, ltb-false s t e)
+
+lowest-min : (a b c d : ℕ) → lowestLane (lanesBy a b c d 0) ≡ min (min a b) (min c d)
+lowest-min a b c d = ap₂ lowerLane (lower-min a b) (lower-min c d) ∙ lower-min (min a b) (min c d)
+
+pub lowest-lane : {unit : List ℕ} → Laned unit → lowestLane (lanesOf unit) ≡ lowest unit
+lowest-lane (one {a} ha) = lowest-min a 64 64 64 ∙ omega arith
+lowest-lane (two {a} {b} ha hb) = lowest-min a b 64 64 ∙ omega arith
+lowest-lane (four {a} {b} {c} {d} ha hb hc hd) = lowest-min a b c d ∙ omega arith
+
+pub lowest-small : {unit : List ℕ} → Laned unit → lowest unit < 64
+lowest-small (one ha) = ha
+lowest-small (two ha hb) = omega arith
+lowest-small (four ha hb hc hd) = omega arith
+
+-- sets joined one after the other
+or-regroup : (a b c : Bool) → (a || b) || c ≡ a || (b || c)
+or-regroup true b c = refl
+or-regroup false b c = refl
+
+pub join-assoc : (a b c : ℕ) → join (join a b) c ≡ join a (join b c)
+join-assoc a b c =
+    same-sets (join (join a b) c) (join a (join b c)) λ i.
+    has-join (join a b) c i
+    ∙ ap (λ (test : Bool). test || has c i) (has-join a b i)
+    ∙ or-regroup (has a i) (has b i) (has c i)
+    ∙ ap (λ (test : Bool). has a i || test) (sym (has-join b c i))
+    ∙ sym (has-join a (join b c) i)
+
+-- the statements of a unit as a set
+pub member-only : (s : ℕ) → s < 64 → memberLane s ≡ only s
+member-only s h = rw (lt-ltb s 64 h)
+
+joined-one : (a : ℕ) → join (join (join a 0) 0) 0 ≡ join 0 a
+joined-one a = or-zero-r (join (join a 0) 0) ∙ or-zero-r (join a 0) ∙ or-zero-r a ∙ sym (or-zero-l a)
+
+joined-two : (a b : ℕ) → join (join (join a b) 0) 0 ≡ join (join 0 a) b
+joined-two a b = or-zero-r (join (join a b) 0) ∙ or-zero-r (join a b) ∙ ap (λ (x : ℕ). join x b) (sym (or-zero-l a))
+
+joined-four : (a b c d : ℕ) → join (join (join a b) c) d ≡ join (join (join (join 0 a) b) c) d
+joined-four a b c d = ap (λ (x : ℕ). join (join (join x b) c) d) (sym (or-zero-l a))
+
+pub member-lanes : {unit : List ℕ} → Laned unit → memberLanes (lanesOf unit) ≡ withUnit unit nobody
+member-lanes (one {a} ha) = ap (λ (x : ℕ). join (join (join x 0) 0) 0) (member-only a ha) ∙ joined-one (only a)
+member-lanes (two {a} {b} ha hb) =
+    ap₂ (λ (x y : ℕ). join (join (join x y) 0) 0) (member-only a ha) (member-only b hb) ∙ joined-two (only a) (only b)
+member-lanes (four {a} {b} {c} {d} ha hb hc hd) =
+    ap₂ join (ap₂ join (ap₂ join (member-only a ha) (member-only b hb)) (member-only c hc)) (member-only d hd)
+    ∙ joined-four (only a) (only b) (only c) (only d)
+
+-- and all that they depend on, where a lane that is not there depends on nothing
+module _ (direct : List ℕ) (nothing : getD direct 64 0 ≡ 0) where
+  pub needed-lanes : {unit : List ℕ} → Laned unit → neededLanes direct (lanesOf unit) ≡ neededBy direct unit
+  needed-lanes (one {a} ha) =
+      ap (λ (x : ℕ). join (join (getD direct a 0) x) (join x x)) nothing
+      ∙ or-zero-r (join (getD direct a 0) 0)
+      ∙ or-zero-r (getD direct a 0)
+      ∙ sym (or-zero-l (getD direct a 0))
+  needed-lanes (two {a} {b} ha hb) =
+      ap (λ (x : ℕ). join (join (getD direct a 0) (getD direct b 0)) (join x x)) nothing
+      ∙ or-zero-r (join (getD direct a 0) (getD direct b 0))
+      ∙ ap (λ (x : ℕ). join x (getD direct b 0)) (sym (or-zero-l (getD direct a 0)))
+  needed-lanes (four {a} {b} {c} {d} ha hb hc hd) =
+      sym (join-assoc (join (getD direct a 0) (getD direct b 0)) (getD direct c 0) (getD direct d 0))
+      ∙ joined-four (getD direct a 0) (getD direct b 0) (getD direct c 0) (getD direct d 0)
