@@ -25,12 +25,12 @@ homeAt homes code = getD homes (code / 2) 0
 abbrev pub setHome : List ℕ → ℕ → ℕ → List ℕ
 setHome homes code value = pick (ltb 0 (code / 2)) (set homes (code / 2) value) homes
 
--- "A variable written by a pack stays in its lane."
+-- "A variable written by a pack stays in its lane." The lowest lane that has it counts.
 abbrev pub landTuple : Tuple → ℕ → List ℕ → List ℕ
 landTuple tuple r homes =
     setHome
-    (setHome (setHome (setHome homes (tupleLane tuple 0) (4 * r + 1)) (tupleLane tuple 1) (4 * r + 1 + 1)) (tupleLane tuple 2) (4 * r + 1 + 2))
-    (tupleLane tuple 3) (4 * r + 1 + 3)
+    (setHome (setHome (setHome homes (tupleLane tuple 3) (4 * r + 1 + 3)) (tupleLane tuple 2) (4 * r + 1 + 2)) (tupleLane tuple 1) (4 * r + 1 + 1))
+    (tupleLane tuple 0) (4 * r + 1)
 
 -- "X then comes before that instruction, once per value"
 unfoldable pub extractCode : ℕ → InLanes → InLanes

@@ -38,15 +38,15 @@ pub fn set_home(homes: &mut [u16], code: u64, value: u16)
     }
 }
 
-// "A variable written by a pack stays in its lane."
+// "A variable written by a pack stays in its lane." The lowest lane that has it counts.
 pub fn land(homes: &mut [u16], tuple: Tuple, r: u8)
     ensures { λ result. ⌜ now (homes .exit) ≡ landTuple tuple r (now (homes .entry)) ⌝ }
 {
     let first = 4 * r as u16 + 1;
-    set_home(homes, tuple.lanes[0], first);
-    set_home(homes, tuple.lanes[1], first + 1);
-    set_home(homes, tuple.lanes[2], first + 2);
     set_home(homes, tuple.lanes[3], first + 3);
+    set_home(homes, tuple.lanes[2], first + 2);
+    set_home(homes, tuple.lanes[1], first + 1);
+    set_home(homes, tuple.lanes[0], first);
 }
 
 // "X then comes before that instruction, once per value"
