@@ -1,14 +1,13 @@
 -- The loops over the tables of pairs and rows add the units of "Combination": of each chain its units from the left end, chain after chain.
 use mathlib.Core.Path.{_≡_, refl, sym, ap, subst, _∙_}
 use mathlib.Core.Logic.{_⊎_, inl, inr}
-use mathlib.Core.Bool.{Bool, true, false, _&&_, not, false≢true}
+use mathlib.Core.Bool.{Bool, true, false, _&&_}
 use mathlib.Core.Option.{none, some}
 use mathlib.Core.List.{List, [], _∷_, _++_, append-nil}
 use Prim.Native.Nat.{ℕ, zero, suc, _+_, _≤_, _<_}
 use native.Mathlib.Omega.{arith}
-use lib.Dec.{eqb, ltb}
 use lib.ListN.{length, getD}
-use borrow.Author.Tests.{lt-ltb, ne-eqb}
+use borrow.Author.Tests.{ne-eqb}
 use Rattle.basics.specs.Choice.{pick}
 use Rattle.basics.specs.Lists.{each}
 use Rattle.basics.specs.Sets.{has}
@@ -16,7 +15,7 @@ use Rattle.basics.proofs.Tests.{below-or-not}
 use Rattle.basics.proofs.Counting.{count-both}
 use Rattle.basics.proofs.Finding.{each-append}
 use Rattle.meaning.specs.declared.Statement.{Statement}
-use Rattle.meaning.specs.Dependence.{reaches, independent}
+use Rattle.meaning.specs.Dependence.{independent}
 use Rattle.meaning.specs.Pairs.{Pair, isRight, partner, chain}
 use Rattle.meaning.specs.Combination.{pairwise, cut, combine}
 use Rattle.theorems.specs.Units.{Every, occurs}
@@ -26,7 +25,7 @@ use Rattle.theorems.proofs.Totals.{total-term}
 use Rattle.theorems.proofs.Chains.{Chain, ends, goes, chain-long}
 use Rattle.theorems.proofs.Pairs.{Admitted, inChain, chain-range}
 use Rattle.reach.specs.Tied.{numberOf, Rowed}
-use Rattle.reach.specs.Rows.{noPath}
+use Rattle.reach.proofs.Reaching.{no-path}
 use Rattle.pairs.specs.Tied.{Paired}
 use Rattle.pairs.proofs.Tables.{no-partner, lefts-below}
 use Rattle.units.specs.Lanes.{lanesOf}
@@ -77,24 +76,13 @@ module _ (reached direct next : List ℕ) where
       → unitFrom reached a b c d ≡ pick (fourApart reached a b c d) (a ∷ b ∷ c ∷ d ∷ []) (a ∷ b ∷ [])
   four-next a b c d there there′ = rw (ne-eqb b 64 there, ne-eqb d 64 there′)
 
-all-five : (a b x y z : Bool) → a ≡ true → b ≡ true → x && (y && z) ≡ a && b && x && y && z
-all-five true true true y z p q = refl
-all-five true true false y z p q = refl
-all-five true false x y z p q = absurd (false≢true q)
-all-five false b x y z p q = absurd (false≢true p)
-
 module _ (ss : List Statement) (direct reached : List ℕ) (rowed : Rowed ss direct reached) where
-  no-path : (s t : ℕ) → s < length ss → t < length ss → noPath reached s t ≡ independent ss s t
-  unfolding independent
-  no-path s t hs ht =
-      rw (rowed .reaching s hs, rowed .reaching t ht)
-      (all-five (ltb s (length ss)) (ltb t (length ss)) (not (eqb s t)) (not (reaches ss s t)) (not (reaches ss t s)) (lt-ltb s (length ss) hs) (lt-ltb t (length ss) ht))
-
   -- "pairwise independent"
   four-apart : (a b c d : ℕ) → a < length ss → b < length ss → c < length ss → d < length ss
       → fourApart reached a b c d ≡ pairwise ss (a ∷ b ∷ c ∷ d ∷ [])
   four-apart a b c d ha hb hc hd =
-      rw (no-path a b ha hb, no-path a c ha hc, no-path a d ha hd, no-path b c hb hc, no-path b d hb hd, no-path c d hc hd)
+      let apart = no-path ss direct reached rowed in
+      rw (apart a b ha hb, apart a c ha hc, apart a d ha hd, apart b c hb hc, apart b d hb hd, apart c d hc hd)
       (six (independent ss a b) (independent ss a c) (independent ss a d) (independent ss b c) (independent ss b d) (independent ss c d))
 
 module _ (ss : List Statement) (pairs : List Pair) (direct reached next : List ℕ) (rights : ℕ) (small : length ss ≤ 64) (known : Admitted ss pairs)

@@ -2,7 +2,7 @@
 -- back gives the unit that was written.
 use mathlib.Core.Path.{_≡_, refl, sym, ap, ap₂, _∙_}
 use mathlib.Core.Logic.{_⊎_, inl, inr}
-use mathlib.Core.Bool.{Bool, true, false, _||_}
+use mathlib.Core.Bool.{Bool, true, false}
 use mathlib.Core.List.{List, [], _∷_}
 use Prim.Native.Nat.{ℕ, _+_, _*_, _/_, _≤_, _<_, min}
 use native.Mathlib.Omega.{arith}
@@ -11,8 +11,8 @@ use lib.Dec.{ltb}
 use lib.ListN.{length, getD}
 use borrow.Author.Tests.{ltb-true, ltb-false, lt-ltb}
 use Rattle.basics.specs.Choice.{pick}
-use Rattle.basics.specs.Sets.{nobody, only, join, has}
-use Rattle.basics.proofs.Sets.{has-join, same-sets}
+use Rattle.basics.specs.Sets.{only, join}
+use Rattle.basics.proofs.Sets.{join-assoc}
 use Rattle.meaning.specs.declared.Statement.{Statement}
 use Rattle.meaning.specs.Schedule.{lowest, withUnit}
 use Rattle.theorems.specs.Units.{Fits}
@@ -89,40 +89,25 @@ lowest-small (one ha) = ha
 lowest-small (two ha hb) = omega arith
 lowest-small (four ha hb hc hd) = omega arith
 
--- sets joined one after the other
-or-regroup : (a b c : Bool) → (a || b) || c ≡ a || (b || c)
-or-regroup true b c = refl
-or-regroup false b c = refl
-
-pub join-assoc : (a b c : ℕ) → join (join a b) c ≡ join a (join b c)
-join-assoc a b c =
-    same-sets (join (join a b) c) (join a (join b c)) λ i.
-    has-join (join a b) c i
-    ∙ ap (λ (test : Bool). test || has c i) (has-join a b i)
-    ∙ or-regroup (has a i) (has b i) (has c i)
-    ∙ ap (λ (test : Bool). has a i || test) (sym (has-join b c i))
-    ∙ sym (has-join a (join b c) i)
-
 -- the statements of a unit as a set
 pub member-only : (s : ℕ) → s < 64 → memberLane s ≡ only s
 member-only s h = rw (lt-ltb s 64 h)
 
-joined-one : (a : ℕ) → join (join (join a 0) 0) 0 ≡ join 0 a
-joined-one a = or-zero-r (join (join a 0) 0) ∙ or-zero-r (join a 0) ∙ or-zero-r a ∙ sym (or-zero-l a)
-
-joined-two : (a b : ℕ) → join (join (join a b) 0) 0 ≡ join (join 0 a) b
-joined-two a b = or-zero-r (join (join a b) 0) ∙ or-zero-r (join a b) ∙ ap (λ (x : ℕ). join x b) (sym (or-zero-l a))
-
-joined-four : (a b c d : ℕ) → join (join (join a b) c) d ≡ join (join (join (join 0 a) b) c) d
-joined-four a b c d = ap (λ (x : ℕ). join (join (join x b) c) d) (sym (or-zero-l a))
-
-pub member-lanes : {unit : List ℕ} → Laned unit → memberLanes (lanesOf unit) ≡ withUnit unit nobody
-member-lanes (one {a} ha) = ap (λ (x : ℕ). join (join (join x 0) 0) 0) (member-only a ha) ∙ joined-one (only a)
-member-lanes (two {a} {b} ha hb) =
-    ap₂ (λ (x y : ℕ). join (join (join x y) 0) 0) (member-only a ha) (member-only b hb) ∙ joined-two (only a) (only b)
-member-lanes (four {a} {b} {c} {d} ha hb hc hd) =
-    ap₂ join (ap₂ join (ap₂ join (member-only a ha) (member-only b hb)) (member-only c hc)) (member-only d hd)
-    ∙ joined-four (only a) (only b) (only c) (only d)
+pub members-with : {unit : List ℕ} → Laned unit → (set : ℕ) → join set (memberLanes (lanesOf unit)) ≡ withUnit unit set
+members-with (one {a} ha) set =
+    ap (join set)
+    (or-zero-r (join (join (memberLane a) 0) 0) ∙ or-zero-r (join (memberLane a) 0) ∙ or-zero-r (memberLane a) ∙ member-only a ha)
+members-with (two {a} {b} ha hb) set =
+    ap (join set)
+    (or-zero-r (join (join (memberLane a) (memberLane b)) 0)
+    ∙ or-zero-r (join (memberLane a) (memberLane b))
+    ∙ ap₂ join (member-only a ha) (member-only b hb))
+    ∙ sym (join-assoc set (only a) (only b))
+members-with (four {a} {b} {c} {d} ha hb hc hd) set =
+    ap (join set) (ap₂ join (ap₂ join (ap₂ join (member-only a ha) (member-only b hb)) (member-only c hc)) (member-only d hd))
+    ∙ sym (join-assoc set (join (join (only a) (only b)) (only c)) (only d))
+    ∙ ap (λ (x : ℕ). join x (only d))
+    (sym (join-assoc set (join (only a) (only b)) (only c)) ∙ ap (λ (x : ℕ). join x (only c)) (sym (join-assoc set (only a) (only b))))
 
 -- and all that they depend on, where a lane that is not there depends on nothing
 module _ (direct : List ℕ) (nothing : getD direct 64 0 ≡ 0) where
@@ -138,4 +123,4 @@ module _ (direct : List ℕ) (nothing : getD direct 64 0 ≡ 0) where
       ∙ ap (λ (x : ℕ). join x (getD direct b 0)) (sym (or-zero-l (getD direct a 0)))
   needed-lanes (four {a} {b} {c} {d} ha hb hc hd) =
       sym (join-assoc (join (getD direct a 0) (getD direct b 0)) (getD direct c 0) (getD direct d 0))
-      ∙ joined-four (getD direct a 0) (getD direct b 0) (getD direct c 0) (getD direct d 0)
+      ∙ ap (λ (x : ℕ). join (join (join x (getD direct b 0)) (getD direct c 0)) (getD direct d 0)) (sym (or-zero-l (getD direct a 0)))
