@@ -3,8 +3,20 @@
 ghost use mathlib.Core.Path.{_≡_};
 ghost use Prim.Native.Nat.{_≤_};
 ghost use Rattle.meaning.specs.Pairs.{pair};
+ghost use mathlib.Core.Bool.{_&&_};
+ghost use Rattle.codes.specs.Codes.{isConstantCode};
 ghost use Rattle.estimate.specs.Costs.{codesCost, positionLoss, readsAt, readsPair, areRead, destinationLoss, rightLoss, lossOf, gainOf, priced};
 use pairs::Pair;
+
+fn both_constants(o: u64, other: u64) -> bool
+    ensures { λ r. ⌜ r ≡ isConstantCode o && isConstantCode other ⌝ }
+{
+    if codes::is_constant(o) {
+        codes::is_constant(other)
+    } else {
+        false
+    }
+}
 
 // "Position: 1 for cells in a row or two constants; 0 for variables whose last definitions are, in
 // this order, an admitted pair; else 2 plus its cell lanes."
@@ -14,10 +26,8 @@ fn operands_cost(o: u64, other: u64, defined: bool) -> u64
     if codes::in_row(o, other) {
         return 1;
     }
-    if codes::is_constant(o) {
-        if codes::is_constant(other) {
-            return 1;
-        }
+    if both_constants(o, other) {
+        return 1;
     }
     if defined {
         return 0;

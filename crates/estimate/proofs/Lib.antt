@@ -1,0 +1,4 @@
+pub mod Finding
+pub mod Definitions
+pub mod Readers
+pub mod Estimates
