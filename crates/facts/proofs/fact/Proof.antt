@@ -19,9 +19,7 @@ returns c =
 
 returns-2 : tie.Need-returns-2
 returns-2 c =
-    simp (
-      le-ltb _ _ (c .if1 .left),
-    )
+    simp (le-ltb _ _ (c .if1 .left))
 
 pub fact-spec : {M : Type 1} → statement M
 fact-spec = tie.close (tie.spec add-word-at word-at-requires returns returns-2)
