@@ -31,20 +31,22 @@ pub record Found : Type 0 where
 abbrev pub found : ℕ → ℕ → ℕ → Found
 found left right estimate = record { left = left; right = right; estimate = estimate }
 
+-- `isBetter`
+abbrev pub greaterOf : Pair → ℕ → Found → Found
+greaterOf p estimate best = pick (eqb (best .left) 64 || ltb (best .estimate) estimate) (found (p .left) (p .right) estimate) best
+
+-- `better`
 abbrev pub betterOf : List ℕ → List ℕ → Tables → Pair → Found → Found
 betterOf facts reached t p best =
-    let lost = lossOf facts (t .next) p in
-    let gained = gainOf facts p in
-    pick
-    (mayPair facts reached t (p .left) (p .right) && (leb lost gained && (eqb (best .left) 64 || ltb (best .estimate) (gained - lost))))
-    (found (p .left) (p .right) (gained - lost)) best
+    pick (mayPair facts reached t (p .left) (p .right))
+    (pick (leb (lossOf facts (t .next) p) (gainOf facts p)) (greaterOf p (gainOf facts p - lossOf facts (t .next) p) best) best) best
 
 abbrev pub bestOfPartners : List ℕ → List ℕ → Tables → ℕ → ℕ → Found → Found
 bestOfPartners facts reached t reader partners best = walk 64 partners (λ partner. betterOf facts reached t (pair reader partner)) best
 
 unfoldable pub bestOf : List ℕ → List ℕ → Tables → Pair → Found
 bestOf facts reached t p =
-    walk 64 (factAt facts 448 (p .left)) (λ reader. bestOfPartners facts reached t reader (factAt facts 448 (p .right))) (found 64 64 0)
+    walk 64 (factAt facts 448 (p .left)) (λ reader. bestOfPartners facts reached t reader (factAt facts 448 (p .right))) (found 64 0 0)
 
 abbrev pub admitFound : Found → Tables → Tables
 admitFound best t = pick (eqb (best .left) 64) t (admitTo (pair (best .left) (best .right)) t)

@@ -3,11 +3,11 @@
 
 ghost use mathlib.Core.Path.{_≡_};
 ghost use mathlib.Core.List.{[]};
-ghost use Prim.Native.Nat.{_≤_, _<_};
+ghost use Prim.Native.Nat.{_+_, _≤_, _<_};
 ghost use Rattle.meaning.specs.Pairs.{pair};
 ghost use Rattle.pairs.specs.Admission.{tables};
 ghost use Rattle.estimate.specs.Costs.{priced};
-ghost use Rattle.extend.specs.Visits.{found, admitPaying, admitDefinitions, betterOf, bestOfPartners, bestOf, admitReaders, visitTables, visitTablesFrom};
+ghost use Rattle.extend.specs.Visits.{found, admitPaying, admitDefinitions, greaterOf, betterOf, bestOfPartners, bestOf, admitReaders, visitTables, visitTablesFrom};
 use pairs::Admitted;
 use pairs::Pair;
 
@@ -20,9 +20,10 @@ fn admit_if_pays(
     admitted: Admitted,
     p: Pair,
 ) -> Admitted
-    requires { ⌜ (admitted .count < 64) × (priced (now facts)) ⌝ }
-    ensures { λ r. ⌜ tables (now (order .exit)) (now (next .exit)) (r .count) (r .rights)
-        ≡ admitPaying (now (facts .entry)) (now (reached .entry)) (pair (p .left) (p .right)) (tables (now (order .entry)) (now (next .entry)) (admitted .count) (admitted .rights)) ⌝ }
+    requires { ⌜ (admitted .count ≤ 1000) × ((p .left < 64) × ((p .right < 64) × (priced (now facts)))) ⌝ }
+    ensures { λ r. ⌜ (tables (now (order .exit)) (now (next .exit)) (r .count) (r .rights)
+        ≡ admitPaying (now (facts .entry)) (now (reached .entry)) (pair (p .left) (p .right)) (tables (now (order .entry)) (now (next .entry)) (admitted .count) (admitted .rights)))
+        × (r .count ≤ admitted .count + 1) ⌝ }
 {
     let s = p.left;
     let t = p.right;
@@ -30,6 +31,7 @@ fn admit_if_pays(
         if estimate::loss(facts, next, p) <= estimate::gain(facts, p) {
             return pairs::admit(order, next, admitted, s, t);
         }
+        return admitted;
     }
     admitted
 }
@@ -45,9 +47,10 @@ fn use_to_definition(
     definition: usize,
     p: Pair,
 ) -> Admitted
-    requires { ⌜ (admitted .count < 64) × ((definition ≤ 448) × (priced (now facts))) ⌝ }
-    ensures { λ r. ⌜ tables (now (order .exit)) (now (next .exit)) (r .count) (r .rights)
-        ≡ admitDefinitions (now (facts .entry)) (now (reached .entry)) definition (pair (p .left) (p .right)) (tables (now (order .entry)) (now (next .entry)) (admitted .count) (admitted .rights)) ⌝ }
+    requires { ⌜ (admitted .count ≤ 1000) × ((definition ≤ 448) × (priced (now facts))) ⌝ }
+    ensures { λ r. ⌜ (tables (now (order .exit)) (now (next .exit)) (r .count) (r .rights)
+        ≡ admitDefinitions (now (facts .entry)) (now (reached .entry)) definition (pair (p .left) (p .right)) (tables (now (order .entry)) (now (next .entry)) (admitted .count) (admitted .rights)))
+        × (r .count ≤ admitted .count + 1) ⌝ }
 {
     let left = facts::fact(facts, definition, p.left) as usize;
     let right = facts::fact(facts, definition, p.right) as usize;
@@ -55,6 +58,7 @@ fn use_to_definition(
         if right < rows::NONE {
             return admit_if_pays(facts, reached, order, next, admitted, Pair { left, right });
         }
+        return admitted;
     }
     admitted
 }
@@ -66,7 +70,32 @@ struct Best {
     estimate: u64,
 }
 
-// "the first with the greatest estimate among those that may be admitted, if it is 0 or more"
+// "the first with the greatest estimate"
+fn greater(best: Best, p: Pair, estimate: u64) -> Best
+    requires { ⌜ (p .left < 64) × ((p .right < 64) × ((best .left ≤ 64) × (best .right < 64))) ⌝ }
+    ensures { λ r. ⌜ (found (r .left) (r .right) (r .estimate) ≡ greaterOf (pair (p .left) (p .right)) estimate (found (best .left) (best .right) (best .estimate)))
+        × ((r .left ≤ 64) × (r .right < 64)) ⌝ }
+{
+    let left = p.left;
+    let right = p.right;
+    if best.left == rows::NONE {
+        return Best {
+            left,
+            right,
+            estimate,
+        };
+    }
+    if best.estimate < estimate {
+        return Best {
+            left,
+            right,
+            estimate,
+        };
+    }
+    best
+}
+
+// "among those that may be admitted, if it is 0 or more"
 fn better(
     facts: &[u64],
     reached: &[u64],
@@ -75,32 +104,18 @@ fn better(
     best: Best,
     p: Pair,
 ) -> Best
-    requires { ⌜ priced (now facts) ⌝ }
-    ensures { λ r. ⌜ found (r .left) (r .right) (r .estimate)
-        ≡ betterOf (now (facts .entry)) (now (reached .entry)) (tables [] (now (next .entry)) (admitted .count) (admitted .rights)) (pair (p .left) (p .right)) (found (best .left) (best .right) (best .estimate)) ⌝ }
+    requires { ⌜ (p .left < 64) × ((p .right < 64) × ((best .left ≤ 64) × ((best .right < 64) × (priced (now facts))))) ⌝ }
+    ensures { λ r. ⌜ (found (r .left) (r .right) (r .estimate)
+        ≡ betterOf (now (facts .entry)) (now (reached .entry)) (tables [] (now (next .entry)) (admitted .count) (admitted .rights)) (pair (p .left) (p .right)) (found (best .left) (best .right) (best .estimate)))
+        × ((r .left ≤ 64) × (r .right < 64)) ⌝ }
 {
-    let left = p.left;
-    let right = p.right;
-    if pairs::may_be_admitted(facts, reached, next, admitted, left, right) {
+    if pairs::may_be_admitted(facts, reached, next, admitted, p.left, p.right) {
         let lost = estimate::loss(facts, next, p);
         let gained = estimate::gain(facts, p);
         if lost <= gained {
-            let estimate = gained - lost;
-            if best.left == rows::NONE {
-                return Best {
-                    left,
-                    right,
-                    estimate,
-                };
-            }
-            if best.estimate < estimate {
-                return Best {
-                    left,
-                    right,
-                    estimate,
-                };
-            }
+            return greater(best, p, gained - lost);
         }
+        return best;
     }
     best
 }
@@ -114,9 +129,10 @@ fn best_with(
     t: usize,
     partners: u64,
 ) -> Best
-    requires { ⌜ priced (now facts) ⌝ }
-    ensures { λ r. ⌜ found (r .left) (r .right) (r .estimate)
-        ≡ bestOfPartners (now (facts .entry)) (now (reached .entry)) (tables [] (now (next .entry)) (admitted .count) (admitted .rights)) t partners (found (before .left) (before .right) (before .estimate)) ⌝ }
+    requires { ⌜ (t < 64) × ((before .left ≤ 64) × ((before .right < 64) × (priced (now facts)))) ⌝ }
+    ensures { λ r. ⌜ (found (r .left) (r .right) (r .estimate)
+        ≡ bestOfPartners (now (facts .entry)) (now (reached .entry)) (tables [] (now (next .entry)) (admitted .count) (admitted .rights)) t partners (found (before .left) (before .right) (before .estimate)))
+        × ((r .left ≤ 64) × (r .right < 64)) ⌝ }
 {
     let mut best = before;
     let mut rest = partners;
@@ -140,12 +156,13 @@ fn best_with(
 // "among all t reading s's result and t' reading its partner's result, t then t' ascending"
 fn best_readers(facts: &[u64], reached: &[u64], next: &[u8], admitted: Admitted, p: Pair) -> Best
     requires { ⌜ priced (now facts) ⌝ }
-    ensures { λ r. ⌜ found (r .left) (r .right) (r .estimate) ≡ bestOf (now (facts .entry)) (now (reached .entry)) (tables [] (now (next .entry)) (admitted .count) (admitted .rights)) (pair (p .left) (p .right)) ⌝ }
+    ensures { λ r. ⌜ (found (r .left) (r .right) (r .estimate) ≡ bestOf (now (facts .entry)) (now (reached .entry)) (tables [] (now (next .entry)) (admitted .count) (admitted .rights)) (pair (p .left) (p .right)))
+        × ((r .left ≤ 64) × (r .right < 64)) ⌝ }
 {
     let partners = facts::fact(facts, facts::READERS, p.right);
     let mut best = Best {
         left: rows::NONE,
-        right: rows::NONE,
+        right: 0,
         estimate: 0,
     };
     let mut rest = facts::fact(facts, facts::READERS, p.left);
@@ -173,9 +190,10 @@ fn definition_to_use(
     admitted: Admitted,
     p: Pair,
 ) -> Admitted
-    requires { ⌜ (admitted .count < 64) × (priced (now facts)) ⌝ }
-    ensures { λ r. ⌜ tables (now (order .exit)) (now (next .exit)) (r .count) (r .rights)
-        ≡ admitReaders (now (facts .entry)) (now (reached .entry)) (pair (p .left) (p .right)) (tables (now (order .entry)) (now (next .entry)) (admitted .count) (admitted .rights)) ⌝ }
+    requires { ⌜ (admitted .count ≤ 1000) × (priced (now facts)) ⌝ }
+    ensures { λ r. ⌜ (tables (now (order .exit)) (now (next .exit)) (r .count) (r .rights)
+        ≡ admitReaders (now (facts .entry)) (now (reached .entry)) (pair (p .left) (p .right)) (tables (now (order .entry)) (now (next .entry)) (admitted .count) (admitted .rights)))
+        × (r .count ≤ admitted .count + 1) ⌝ }
 {
     let best = best_readers(facts, reached, next, admitted, p);
     if best.left == rows::NONE {
@@ -194,9 +212,10 @@ fn visit(
     admitted: Admitted,
     p: Pair,
 ) -> Admitted
-    requires { ⌜ (admitted .count < 62) × (priced (now facts)) ⌝ }
-    ensures { λ r. ⌜ tables (now (order .exit)) (now (next .exit)) (r .count) (r .rights)
-        ≡ visitTables (now (facts .entry)) (now (reached .entry)) (pair (p .left) (p .right)) (tables (now (order .entry)) (now (next .entry)) (admitted .count) (admitted .rights)) ⌝ }
+    requires { ⌜ (admitted .count ≤ 500) × (priced (now facts)) ⌝ }
+    ensures { λ r. ⌜ (tables (now (order .exit)) (now (next .exit)) (r .count) (r .rights)
+        ≡ visitTables (now (facts .entry)) (now (reached .entry)) (pair (p .left) (p .right)) (tables (now (order .entry)) (now (next .entry)) (admitted .count) (admitted .rights)))
+        × (r .count ≤ admitted .count + 3) ⌝ }
 {
     let first = use_to_definition(
         facts,
@@ -228,9 +247,10 @@ pub fn extend(
     next: &mut [u8],
     seeded: Admitted,
 ) -> Admitted
-    requires { ⌜ (n ≤ 64) × (priced (now facts)) ⌝ }
-    ensures { λ r. ⌜ tables (now (order .exit)) (now (next .exit)) (r .count) (r .rights)
-        ≡ visitTablesFrom n (now (facts .entry)) reached 0 (tables (now (order .entry)) (now (next .entry)) (seeded .count) (seeded .rights)) ⌝ }
+    requires { ⌜ (n ≤ 64) × ((seeded .count ≤ 64) × (priced (now facts))) ⌝ }
+    ensures { λ r. ⌜ (tables (now (order .exit)) (now (next .exit)) (r .count) (r .rights)
+        ≡ visitTablesFrom n (now (facts .entry)) reached 0 (tables (now (order .entry)) (now (next .entry)) (seeded .count) (seeded .rights)))
+        × (r .count ≤ 256) ⌝ }
 {
     let mut admitted = seeded;
     let mut i: usize = 0;
