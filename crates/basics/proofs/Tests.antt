@@ -3,8 +3,8 @@ use mathlib.Core.Path.{_≡_, refl, sym}
 use mathlib.Core.Logic.{_⊎_, inl, inr, ⊎-map}
 use mathlib.Core.Bool.{Bool, true, false, _&&_, _||_}
 use Prim.Native.Nat.{ℕ, _≤_, _<_}
-use lib.Dec.{ltb}
-use borrow.Author.Tests.{ltb-true, ltb-false}
+use lib.Dec.{ltb, eqb}
+use borrow.Author.Tests.{ltb-true, ltb-false, eqb-true, eqb-false}
 
 -- both parts of a passed "and", and the way back
 pub and-left : (a b : Bool) → a && b ≡ true → a ≡ true
@@ -48,3 +48,7 @@ pub same-test : (a b : Bool) → (a ≡ true → b ≡ true) → (b ≡ true →
 same-test true b there back = sym (there refl)
 same-test false true there back = back refl
 same-test false false there back = refl
+
+-- two numbers are equal, or they are not
+pub equal-or-not : (a b : ℕ) → (a ≡ b) ⊎ (a ≡ b → ⊥)
+equal-or-not a b = ⊎-map (eqb-true a b) (eqb-false a b) (passes-or-fails (eqb a b))

@@ -1,7 +1,7 @@
 -- From the codes back to what they stand for.
 use mathlib.Core.Path.{_≡_}
 use mathlib.Core.Bool.{true}
-use Prim.Native.Nat.{ℕ, _+_, _-_, _/_, _%_}
+use Prim.Native.Nat.{ℕ, _-_, _/_, _%_}
 use native.Mathlib.Omega.{arith}
 use Rattle.meaning.specs.declared.Place.the-variants.{Variable, Cell}
 use Rattle.meaning.specs.declared.Operand.the-variants.{Constant}
