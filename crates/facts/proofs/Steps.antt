@@ -1,5 +1,5 @@
--- One place named, case by case, as the tables are left.
-use mathlib.Core.Path.{_≡_, ap, _∙_}
+-- One place named, case by case, as the tables are left; and what remains of a column at its first statement and at each one.
+use mathlib.Core.Path.{_≡_, sym, ap, _∙_}
 use mathlib.Core.List.{List}
 use Prim.Native.Nat.{ℕ, _+_, _-_, _≤_, _<_}
 use native.Mathlib.Nat.{sub-zero}
@@ -7,6 +7,7 @@ use lib.Dec.{eqb, leb}
 use lib.ListN.{length, getD, set}
 use borrow.Author.Tests.{le-leb, lt-leb, eq-eqb, ne-eqb}
 use Rattle.basics.specs.Sets.{only}
+use Rattle.basics.proofs.Counting.{count-more}
 use Rattle.basics.proofs.Tests.{or-right}
 use Rattle.basics.specs.Counting.{count}
 use Rattle.meaning.specs.declared.Statement.{Statement}
@@ -47,3 +48,11 @@ stated ss n facts = rw sub-zero
 pub naming-all : (facts : List ℕ) (column n : ℕ) (t : Named) → namePlaces facts column n t ≡ count (n - 0) 0 (λ i. namePlace (factAt facts column i) i) t
 unfolding namePlaces
 naming-all facts column n t = rw sub-zero
+
+-- one statement more of a column, by the code that was looked up for it
+pub naming-more : (facts : List ℕ) (column n i code : ℕ) (t after : Named) → i < n → code ≡ factAt facts column i → after ≡ namePlace code i t
+    → count (n - i) i (λ j. namePlace (factAt facts column j) j) t ≡ count (n - (i + 1)) (i + 1) (λ j. namePlace (factAt facts column j) j) after
+naming-more facts column n i code t after below looked named =
+    let step : ℕ → Named → Named = λ j. namePlace (factAt facts column j) j in
+    let here : step i t ≡ after = sym (named ∙ ap (λ (c : ℕ). namePlace c i t) looked) in
+    count-more step n i t below ∙ ap (count (n - (i + 1)) (i + 1) step) here

@@ -1,5 +1,5 @@
 -- `facts::fact` meets its contract.
-use borrow.Author.Tests.{le-ltb, lt-ltb, le-leb, lt-leb}
+use borrow.Author.Tests.{le-ltb, lt-ltb}
 use borrow.Author.Needs.{needs}
 use Rattle.facts.proofs.fact.Statement.{statement}
 use Rattle.facts.proofs.fact.Tie as tie

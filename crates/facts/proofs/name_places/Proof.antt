@@ -1,14 +1,14 @@
 -- `facts::name_places` meets its contract.
-use mathlib.Core.Path.{_≡_, refl, sym, ap, _∙_}
-use Prim.Native.Nat.{ℕ, _-_, _+_, _≤_}
+use mathlib.Core.Path.{_≡_, refl, sym, _∙_}
+use Prim.Native.Nat.{_-_, _+_, _≤_}
 use native.Mathlib.Omega.{arith}
 use lib.ListN.{length}
 use borrow.Author.Needs.{needs}
 use Rattle.basics.specs.Counting.{count}
-use Rattle.basics.proofs.Counting.{count-more, count-end}
+use Rattle.basics.proofs.Counting.{count-end}
 use Rattle.facts.specs.Facts.{factAt}
-use Rattle.facts.specs.Places.{Named, namedTables, namePlace, namePlaces}
-use Rattle.facts.proofs.Steps.{naming-all}
+use Rattle.facts.specs.Places.{namedTables, namePlace, namePlaces}
+use Rattle.facts.proofs.Steps.{naming-all, naming-more}
 use Rattle.facts.proofs.name_places.Statement.{statement}
 use Rattle.facts.proofs.name_places.Tie as tie
 
@@ -39,17 +39,16 @@ loop-again : tie.Need-loop-again Inv-loop μ-loop
 loop-again c =
     let at-loop = c .before .before .before .before .before .before .before .before .before in
     let start = at-loop .before .before .before .before in
-    let i = at-loop .loop .i in
-    let column = start .args .column in
-    let facts = start .args .facts .now in
-    let rest : Named → Named = λ t. count (start .args .n - (i + 1)) (i + 1) (λ j. namePlace (factAt facts column j) j) t in
     let tables = namedTables (at-loop .loop .numbers) (at-loop .loop .named) (at-loop .loop .given) in (
       omega arith,
       search needs,
       search needs,
       omega arith,
-      at-loop .loop .inv .4 ∙ count-more _ _ _ _ (c .before .before .before .before .before .before .before .before .loop-test .taken)
-          ∙ ap rest (ap (λ (code : ℕ). namePlace code i tables) (sym (c .before .before .before .before .before .fact .ensures)) ∙ sym (c .before .before .before .before .name-place .ensures .0)),
+      at-loop .loop .inv .4
+          ∙ naming-more (start .args .facts .now) (start .args .column) (start .args .n) (at-loop .loop .i) (c .before .before .before .before .before .fact .result) tables _
+          (c .before .before .before .before .before .before .before .before .loop-test .taken)
+          (c .before .before .before .before .before .fact .ensures)
+          (c .before .before .before .before .name-place .ensures .0),
     )
 
 same-length : tie.Need-same-length Inv-loop μ-loop
