@@ -2,3 +2,4 @@ pub mod Direct
 pub mod Reaching
 pub mod Columns
 pub mod Defining
+pub mod Steps
