@@ -15,7 +15,7 @@ use Rattle.meaning.specs.Emission.{Emitted, written, rowStart, next, destinatio
 use Rattle.theorems.specs.Steps.{holding, placesOf, storesFrom, stores, endedBy, awayFrom, packed}
 
 -- some instructions more
-abbrev behind : Emitted → List Instruction → Emitted
+abbrev pub behind : Emitted → List Instruction → Emitted
 behind e list = record { instructions = e .instructions ++ list; registers = e .registers; homes = e .homes }
 
 behind-none : (e : Emitted) → behind e [] ≡ e
@@ -25,14 +25,14 @@ behind-one : (e : Emitted) (i : Instruction) (list : List Instruction) → behin
 behind-one e i list =
     ap (λ (all : List Instruction). record { instructions = all; registers = e .registers; homes = e .homes }) (append-assoc (e .instructions) (i ∷ []) list)
 
-each-stored : (r lane : ℕ) (os : List Operand) (e : Emitted) → storeEach r lane os e ≡ behind e (storesFrom r lane os)
+pub each-stored : (r lane : ℕ) (os : List Operand) (e : Emitted) → storeEach r lane os e ≡ behind e (storesFrom r lane os)
 each-stored r lane [] e = sym (behind-none e)
 each-stored r lane (Nothing ∷ os) e = each-stored r (lane + 1) os e
 each-stored r lane (Constant c ∷ os) e = each-stored r (lane + 1) os e
 each-stored r lane (Held (Variable v) ∷ os) e = each-stored r (lane + 1) os e
 each-stored r lane (Held (Cell a i) ∷ os) e = each-stored r (lane + 1) os (emit (D r lane a i) e) ∙ behind-one e (D r lane a i) (storesFrom r (lane + 1) os)
 
-tuple-stored : (r : ℕ) (tuple : List Operand) (e : Emitted) → storeTuple r tuple e ≡ behind e (stores r tuple (rowStart tuple))
+pub tuple-stored : (r : ℕ) (tuple : List Operand) (e : Emitted) → storeTuple r tuple e ≡ behind e (stores r tuple (rowStart tuple))
 unfolding storeTuple
 tuple-stored r tuple e = by (rowStart tuple)
   where
@@ -42,7 +42,7 @@ tuple-stored r tuple e = by (rowStart tuple)
     by none = each-stored r 0 tuple e
 
 -- the writes of a unit, one after the other
-each-written : (ss : List Statement) (unit : List ℕ) (e : Emitted)
+pub each-written : (ss : List Statement) (unit : List ℕ) (e : Emitted)
     → each writtenOperand (destinations ss unit) e
     ≡ record { instructions = e .instructions; registers = endedBy (placesOf ss unit) (e .registers); homes = awayFrom (placesOf ss unit) (e .homes) }
 unfolding written

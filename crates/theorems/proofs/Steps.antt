@@ -109,7 +109,7 @@ operand-keeps (Held (Variable v)) (Held (Variable w)) e away = ap not (extract-k
 operand-keeps (Held (Variable v)) (Held (Cell a i)) e away = refl
 operand-keeps (Held (Cell a i)) other e away = away
 
-operand-registers : (o : Operand) (e : Emitted) → extractOperand o e .registers ≡ e .registers
+pub operand-registers : (o : Operand) (e : Emitted) → extractOperand o e .registers ≡ e .registers
 operand-registers Nothing e = refl
 operand-registers (Constant c) e = refl
 operand-registers (Held (Variable v)) e = extract-registers v e
@@ -125,7 +125,7 @@ each-away [] e = refl
 each-away (o ∷ os) e =
     and-both (fromMemory (each extractOperand os (extractOperand o e) .homes) o) _ (each-keeps os o (extractOperand o e) (operand-away o e)) (each-away os (extractOperand o e))
 
-each-registers : (os : List Operand) (e : Emitted) → each extractOperand os e .registers ≡ e .registers
+pub each-registers : (os : List Operand) (e : Emitted) → each extractOperand os e .registers ≡ e .registers
 each-registers [] e = refl
 each-registers (o ∷ os) e = each-registers os (extractOperand o e) ∙ operand-registers o e
 
@@ -211,7 +211,7 @@ module _ {ss : List Statement} {n : ℕ} {units : List (List ℕ)} where
           (ap length (each-registers tuple e))
           (loads tuple (G (next (each extractOperand tuple e)) tuple) t (gathered (each-away tuple e)) (each-step tuple r))
 
-load-registers : (tuple : List Operand) (e : Emitted) → load tuple e .registers ≡ e .registers ++ holding tuple ∷ []
+pub load-registers : (tuple : List Operand) (e : Emitted) → load tuple e .registers ≡ e .registers ++ holding tuple ∷ []
 unfolding load
 load-registers tuple e = by (rowStart tuple) (constantsOf tuple)
   where
@@ -370,7 +370,7 @@ apart-distinct ss (s ∷ members) apart =
     (every-map (Apart ss s) (λ t. statement ss t .destination) (λ q. not (same (statement ss s .destination) q)) (write-apart ss s) members (apart .0))
     (apart-distinct ss members (apart .1))
 
-fits-pack : (ss : List Statement) (s t : ℕ) (rest : List ℕ) → Fits ss (s ∷ t ∷ rest) → Pack ss (s ∷ t ∷ rest)
+pub fits-pack : (ss : List Statement) (s t : ℕ) (rest : List ℕ) → Fits ss (s ∷ t ∷ rest) → Pack ss (s ∷ t ∷ rest)
 fits-pack ss s t rest f =
     record {
       lanes = by (f .lanes);

@@ -1,0 +1,3 @@
+pub mod Laned
+pub mod Ends
+pub mod Table

@@ -1,0 +1,306 @@
+-- The table says of each register what it holds and whether it is current: when a tuple is looked for or held, and when a statement is done.
+use mathlib.Core.Path.{_≡_, refl, sym, ap, subst, _∙_}
+use mathlib.Core.Logic.{_⊎_, inl, inr}
+use mathlib.Core.Bool.{Bool, true, false, _&&_, _||_, not, true≢false}
+use mathlib.Core.Option.{Option, none, some}
+use mathlib.Core.List.{List, [], _∷_, _++_, map}
+use Prim.Native.Nat.{ℕ, zero, suc, _+_, _*_, _%_, _≤_, _<_}
+use native.Mathlib.Nat.{add-zero}
+use native.Mathlib.Omega.{arith}
+use lib.Dec.{eqb}
+use lib.ListN.{length, getD, set, replicate, length-set, length-append, length-map, length-replicate, List·getD-append, List·getD-map}
+use lib.Seq.{getD-append-seam, getD-set-same, getD-set-other}
+use lib.Bits.{bitAnd}
+use borrow.Author.Tests.{eqb-true}
+use Rattle.basics.specs.Lists.{any, all, each}
+use Rattle.basics.specs.Sets.{only, join, has}
+use Rattle.basics.proofs.Tests.{or-either, below-or-not}
+use Rattle.basics.proofs.Parts.{all-at}
+use Rattle.basics.proofs.Sets.{has-join}
+use Rattle.meaning.specs.declared.Operand.{Operand}
+use Rattle.meaning.specs.declared.Statement.{Statement}
+use Rattle.meaning.specs.Block.{statement, blank, names}
+use Rattle.meaning.specs.List.{lanesFit}
+use Rattle.meaning.specs.Emission.{Register, ended, sameTuple, holder}
+use Rattle.theorems.specs.Steps.{noRegister, holding, placesOf, endedBy}
+use Rattle.codes.specs.Codes.{placeCode}
+use Rattle.codes.specs.Fitting.{placeFits, operandFits}
+use Rattle.facts.specs.Tied.{Names}
+use Rattle.registers.specs.Table.{servesAt, holderFrom, writersOf, endings, holdTuple}
+use Rattle.registers.proofs.Laned.{Laned, laned, laneCode, tupleOf, sameCodes, same-codes-tuple}
+use Rattle.registers.proofs.Ends.{made-current, current-then, ends-named}
+
+-- one register: the codes of its tuple, how many there are, who of those not yet done ends it, and that it is current
+pub record Holding (ss : List Statement) (done : ℕ) (table : List ℕ) (r : ℕ) (register : Register) : Type 0 where
+  pub lanes : lanesFit (length (register .tuple)) ≡ true
+  pub fit : all operandFits (register .tuple) ≡ true
+  pub lane-0 : getD table r 0 ≡ laneCode (register .tuple) 0
+  pub lane-1 : getD table (r + 96) 0 ≡ laneCode (register .tuple) 1
+  pub lane-2 : getD table (r + 192) 0 ≡ laneCode (register .tuple) 2
+  pub lane-3 : getD table (r + 288) 0 ≡ laneCode (register .tuple) 3
+  pub count : getD table (r + 384) 0 ≡ length (register .tuple)
+  pub ends : (s : ℕ) → s < length ss → has done s ≡ false
+      → has (getD table (r + 480) 0) s ≡ any (λ o. names o (statement ss s .destination)) (register .tuple)
+  pub current : register .current ≡ eqb (bitAnd (getD table (r + 480) 0) done) 0
+
+pub record Registers (ss : List Statement) (done : ℕ) (registers : List Register) (table : List ℕ) : Type 0 where
+  pub sized : length table ≡ 576
+  pub holds : (r : ℕ) → r < length registers → Holding ss done table r (getD registers r noRegister)
+
+pub no-registers : (ss : List Statement) (done : ℕ) → Registers ss done [] (replicate 576 0)
+no-registers ss done = record { sized = length-replicate {A = ℕ} 576 0; holds = λ r below. absurd (omega arith) }
+
+-- "a current register that holds exactly this tuple"
+one-byte : (n : ℕ) → lanesFit n ≡ true → n % 256 ≡ n
+one-byte n fits = by (or-either (eqb n 2) (eqb n 4) fits)
+  where
+    by : (eqb n 2 ≡ true) ⊎ (eqb n 4 ≡ true) → n % 256 ≡ n
+    by (inl h) = omega (arith, eqb-true n 2 h)
+    by (inr h) = omega (arith, eqb-true n 4 h)
+
+asked-before : (x c k rest : Bool) → x && (c && (k && (x && rest))) ≡ c && (k && (x && rest))
+asked-before true c k rest = refl
+asked-before false true true rest = refl
+asked-before false true false rest = refl
+asked-before false false k rest = refl
+
+serves-same : (ss : List Statement) (done : ℕ) (table : List ℕ) (r : ℕ) (register : Register) (os : List Operand) → Holding ss done table r register
+    → Laned os → all operandFits os ≡ true → servesAt table r (tupleOf os) done ≡ register .current && sameTuple (register .tuple) os
+serves-same ss done table r register os h shape fit =
+    let counted : getD table (r + 384) 0 % 256 ≡ length (register .tuple) = ap (λ (n : ℕ). n % 256) (h .count) ∙ one-byte (length (register .tuple)) (h .lanes) in
+    let codes : servesAt table r (tupleOf os) done ≡ eqb (laneCode (register .tuple) 0) (laneCode os 0) && (register .current && sameCodes (register .tuple) os) =
+    rw (counted, h .lane-0, h .lane-1, h .lane-2, h .lane-3, h .current) in
+    codes
+    ∙ asked-before (eqb (laneCode (register .tuple) 0) (laneCode os 0)) (register .current) (eqb (length (register .tuple)) (length os)) _
+    ∙ ap (λ (same : Bool). register .current && same) (same-codes-tuple (register .tuple) os (laned (register .tuple) (h .lanes)) shape (h .fit) fit)
+
+-- by its number, 96 where there is none
+abbrev pub Found : ℕ → ℕ → Option ℕ → Type 0
+Found n bound none = n ≡ 96
+Found n bound (some r) = (n ≡ r) × (r < bound)
+
+module _ (ss : List Statement) (done : ℕ) (table : List ℕ) (os : List Operand) (shape : Laned os) (fit : all operandFits os ≡ true) where
+  serving : (n r : ℕ) → servesAt table r (tupleOf os) done ≡ true → holderFrom (suc n) r table done (tupleOf os) ≡ r
+  unfolding holderFrom
+  serving n r e = rw (e, holderFrom)
+
+  not-serving : (n r : ℕ) → servesAt table r (tupleOf os) done ≡ false
+      → holderFrom (suc n) r table done (tupleOf os) ≡ holderFrom n (r + 1) table done (tupleOf os)
+  unfolding holderFrom
+  not-serving n r e = rw (e, holderFrom)
+
+  found-from : (r : ℕ) (registers : List Register) → ((i : ℕ) → i < length registers → Holding ss done table (r + i) (getD registers i noRegister))
+      → Found (holderFrom (length registers) r table done (tupleOf os)) (r + length registers) (holder r registers os)
+  unfolding holderFrom
+  found-from r [] held = refl
+  found-from r (x ∷ registers) held =
+      by (x .current && sameTuple (x .tuple) os) (serves-same ss done table r x os (subst (λ (k : ℕ). Holding ss done table k x) (add-zero r) (held 0 (omega arith))) shape fit)
+      (holder (r + 1) registers os)
+      (found-from (r + 1) registers
+      (λ i below. subst (λ (k : ℕ). Holding ss done table k (getD registers i noRegister)) (omega arith) (held (suc i) (omega arith))))
+    where
+      by : (t : Bool) → servesAt table r (tupleOf os) done ≡ t → (found : Option ℕ)
+          → Found (holderFrom (length registers) (r + 1) table done (tupleOf os)) (r + 1 + length registers) found
+          → Found (holderFrom (suc (length registers)) r table done (tupleOf os)) (r + suc (length registers)) (elim t [ true ↦ some r | false ↦ found ])
+      by true e found later = (serving (length registers) r e, omega arith)
+      by false e none later = not-serving (length registers) r e ∙ later
+      by false e (some number) later = (not-serving (length registers) r e ∙ later .0, omega (arith, later .1))
+
+  pub holder-found : (registers : List Register) → Registers ss done registers table
+      → Found (holderFrom (length registers) 0 table done (tupleOf os)) (length registers) (holder 0 registers os)
+  holder-found registers h =
+      let e : 0 + length registers ≡ length registers = omega arith in
+      subst (λ (n : ℕ). Found (holderFrom (length registers) 0 table done (tupleOf os)) n (holder 0 registers os)) e
+      (found-from 0 registers
+      (λ i below. subst (λ (k : ℕ). Holding ss done table k (getD registers i noRegister)) (omega arith) (h .holds i below)))
+
+-- a register that is put into the table: its own slots, and those of the others
+module _ (table : List ℕ) (r a b c d k e : ℕ) where
+  abbrev set-0 : List ℕ
+  set-0 = set table r a
+
+  abbrev set-1 : List ℕ
+  set-1 = set set-0 (r + 96) b
+
+  abbrev set-2 : List ℕ
+  set-2 = set set-1 (r + 192) c
+
+  abbrev set-3 : List ℕ
+  set-3 = set set-2 (r + 288) d
+
+  abbrev set-4 : List ℕ
+  set-4 = set set-3 (r + 384) k
+
+  abbrev set-5 : List ℕ
+  set-5 = set set-4 (r + 480) e
+
+  set-length : length set-5 ≡ length table
+  set-length =
+      length-set set-4 (r + 480) e
+      ∙ length-set set-3 (r + 384) k
+      ∙ length-set set-2 (r + 288) d
+      ∙ length-set set-1 (r + 192) c
+      ∙ length-set set-0 (r + 96) b
+      ∙ length-set table r a
+
+  aside : (q other column : ℕ) → q ≡ other + 96 * column → other < 96 → r < 96 → (other ≡ r → ⊥) → getD set-5 q 0 ≡ getD table q 0
+  aside q other column is low few differ =
+      getD-set-other set-4 (r + 480) q e 0 (λ (h : q ≡ r + 480). differ (omega arith))
+      ∙ getD-set-other set-3 (r + 384) q k 0 (λ (h : q ≡ r + 384). differ (omega arith))
+      ∙ getD-set-other set-2 (r + 288) q d 0 (λ (h : q ≡ r + 288). differ (omega arith))
+      ∙ getD-set-other set-1 (r + 192) q c 0 (λ (h : q ≡ r + 192). differ (omega arith))
+      ∙ getD-set-other set-0 (r + 96) q b 0 (λ (h : q ≡ r + 96). differ (omega arith))
+      ∙ getD-set-other table r q a 0 (λ (h : q ≡ r). differ (omega arith))
+
+  module _ (sized : length table ≡ 576) (few : r < 96) where
+    own-0 : getD set-5 r 0 ≡ a
+    own-0 =
+        getD-set-other set-4 (r + 480) r e 0 (λ (h : r ≡ r + 480). omega arith)
+        ∙ getD-set-other set-3 (r + 384) r k 0 (λ (h : r ≡ r + 384). omega arith)
+        ∙ getD-set-other set-2 (r + 288) r d 0 (λ (h : r ≡ r + 288). omega arith)
+        ∙ getD-set-other set-1 (r + 192) r c 0 (λ (h : r ≡ r + 192). omega arith)
+        ∙ getD-set-other set-0 (r + 96) r b 0 (λ (h : r ≡ r + 96). omega arith)
+        ∙ getD-set-same table r a 0 (omega arith)
+
+    own-1 : getD set-5 (r + 96) 0 ≡ b
+    own-1 =
+        getD-set-other set-4 (r + 480) (r + 96) e 0 (λ (h : r + 96 ≡ r + 480). omega arith)
+        ∙ getD-set-other set-3 (r + 384) (r + 96) k 0 (λ (h : r + 96 ≡ r + 384). omega arith)
+        ∙ getD-set-other set-2 (r + 288) (r + 96) d 0 (λ (h : r + 96 ≡ r + 288). omega arith)
+        ∙ getD-set-other set-1 (r + 192) (r + 96) c 0 (λ (h : r + 96 ≡ r + 192). omega arith)
+        ∙ getD-set-same set-0 (r + 96) b 0 (omega (arith, length-set table r a))
+
+    own-2 : getD set-5 (r + 192) 0 ≡ c
+    own-2 =
+        getD-set-other set-4 (r + 480) (r + 192) e 0 (λ (h : r + 192 ≡ r + 480). omega arith)
+        ∙ getD-set-other set-3 (r + 384) (r + 192) k 0 (λ (h : r + 192 ≡ r + 384). omega arith)
+        ∙ getD-set-other set-2 (r + 288) (r + 192) d 0 (λ (h : r + 192 ≡ r + 288). omega arith)
+        ∙ getD-set-same set-1 (r + 192) c 0 (omega (arith, length-set set-0 (r + 96) b, length-set table r a))
+
+    own-3 : getD set-5 (r + 288) 0 ≡ d
+    own-3 =
+        getD-set-other set-4 (r + 480) (r + 288) e 0 (λ (h : r + 288 ≡ r + 480). omega arith)
+        ∙ getD-set-other set-3 (r + 384) (r + 288) k 0 (λ (h : r + 288 ≡ r + 384). omega arith)
+        ∙ getD-set-same set-2 (r + 288) d 0 (omega (arith, length-set set-1 (r + 192) c, length-set set-0 (r + 96) b, length-set table r a))
+
+    own-4 : getD set-5 (r + 384) 0 ≡ k
+    own-4 =
+        getD-set-other set-4 (r + 480) (r + 384) e 0 (λ (h : r + 384 ≡ r + 480). omega arith)
+        ∙ getD-set-same set-3 (r + 384) k 0
+        (omega (arith, length-set set-2 (r + 288) d, length-set set-1 (r + 192) c, length-set set-0 (r + 96) b, length-set table r a))
+
+    own-5 : getD set-5 (r + 480) 0 ≡ e
+    own-5 = getD-set-same set-4 (r + 480) e 0 (omega (arith, set-length, length-set set-4 (r + 480) e))
+
+holding-stays : (ss : List Statement) (done : ℕ) (table after : List ℕ) (r : ℕ) (register : Register) → Holding ss done table r register
+    → ((q column : ℕ) → q ≡ r + 96 * column → getD after q 0 ≡ getD table q 0) → Holding ss done after r register
+holding-stays ss done table after r register h stay =
+    let last : getD after (r + 480) 0 ≡ getD table (r + 480) 0 = stay (r + 480) 5 refl in
+    record {
+      lanes = h .lanes;
+      fit = h .fit;
+      lane-0 = stay r 0 (omega arith) ∙ h .lane-0;
+      lane-1 = stay (r + 96) 1 refl ∙ h .lane-1;
+      lane-2 = stay (r + 192) 2 refl ∙ h .lane-2;
+      lane-3 = stay (r + 288) 3 refl ∙ h .lane-3;
+      count = stay (r + 384) 4 refl ∙ h .count;
+      ends = λ s below pending. ap (λ (ending : ℕ). has ending s) last ∙ h .ends s below pending;
+      current = h .current ∙ ap (λ (ending : ℕ). eqb (bitAnd ending done) 0) (sym last);
+    }
+
+-- a new register that holds the tuple
+module _ (ss : List Statement) (numbers writers : List ℕ) (named : Names ss (λ s. placeCode (s .destination)) numbers writers)
+    (places : (s : ℕ) → s < length ss → placeFits (statement ss s .destination) ≡ true) where
+  pub registers-more : (done : ℕ) (os : List Operand) (registers : List Register) (table : List ℕ) → lanesFit (length os) ≡ true → all operandFits os ≡ true
+      → length registers < 96 → Registers ss done registers table
+      → Registers ss done (registers ++ holding os ∷ []) (holdTuple numbers writers (tupleOf os) done (length registers) table)
+  registers-more done os registers table lanes fit few h =
+      record {
+        sized = set-length table n (laneCode os 0) (laneCode os 1) (laneCode os 2) (laneCode os 3) (length os) ending ∙ h .sized;
+        holds = λ r below. by r below (below-or-not r n);
+      }
+    where
+      n : ℕ
+      n = length registers
+
+      ending : ℕ
+      ending = endings numbers writers (tupleOf os) done
+
+      after : List ℕ
+      after = holdTuple numbers writers (tupleOf os) done n table
+
+      own : Holding ss done after n (holding os)
+      own =
+          let last : getD after (n + 480) 0 ≡ ending = own-5 table n (laneCode os 0) (laneCode os 1) (laneCode os 2) (laneCode os 3) (length os) ending (h .sized) few in
+          record {
+            lanes = lanes;
+            fit = fit;
+            lane-0 = own-0 table n (laneCode os 0) (laneCode os 1) (laneCode os 2) (laneCode os 3) (length os) ending (h .sized) few;
+            lane-1 = own-1 table n (laneCode os 0) (laneCode os 1) (laneCode os 2) (laneCode os 3) (length os) ending (h .sized) few;
+            lane-2 = own-2 table n (laneCode os 0) (laneCode os 1) (laneCode os 2) (laneCode os 3) (length os) ending (h .sized) few;
+            lane-3 = own-3 table n (laneCode os 0) (laneCode os 1) (laneCode os 2) (laneCode os 3) (length os) ending (h .sized) few;
+            count = own-4 table n (laneCode os 0) (laneCode os 1) (laneCode os 2) (laneCode os 3) (length os) ending (h .sized) few;
+            ends = λ s below pending.
+                ap (λ (set-of : ℕ). has set-of s) last ∙ ends-named ss numbers writers named os done s (laned os lanes) fit below (places s below) pending;
+            current = sym (ap (λ (set-of : ℕ). eqb (bitAnd set-of done) 0) last ∙ made-current (writersOf numbers writers (tupleOf os)) done);
+          }
+
+      by : (r : ℕ) → r < length (registers ++ holding os ∷ []) → (r < n) ⊎ (n ≤ r) → Holding ss done after r (getD (registers ++ holding os ∷ []) r noRegister)
+      by r below (inl low) =
+          rw (List·getD-append registers (holding os ∷ []) noRegister r low)
+          (holding-stays ss done table after r (getD registers r noRegister) (h .holds r low) λ q column is.
+          aside table n (laneCode os 0) (laneCode os 1) (laneCode os 2) (laneCode os 3) (length os) ending q r column is (omega arith) few
+          (λ (same : r ≡ n). omega arith))
+      by r below (inr high) =
+          let this : r ≡ n = omega (arith, length-append registers (holding os ∷ [])) in
+          rw (this, getD-append-seam registers (holding os) [] noRegister) own
+
+-- "it is current until a statement, packed or single, writes one of those places"
+holding-ended : (ss : List Statement) (done s : ℕ) (table : List ℕ) (r : ℕ) (register : Register) → s < length ss → has done s ≡ false
+    → Holding ss done table r register → Holding ss (join done (only s)) table r (ended (statement ss s .destination) register)
+holding-ended ss done s table r register below pending h =
+    record {
+      lanes = h .lanes;
+      fit = h .fit;
+      lane-0 = h .lane-0;
+      lane-1 = h .lane-1;
+      lane-2 = h .lane-2;
+      lane-3 = h .lane-3;
+      count = h .count;
+      ends = λ t inside open-still. h .ends t inside (neither (has done t) (has (only s) t) (sym (has-join done (only s) t) ∙ open-still));
+      current =
+          sym
+          (current-then (getD table (r + 480) 0) done s
+          ∙ ap (λ (x : Bool). x && not (has (getD table (r + 480) 0) s)) (sym (h .current))
+          ∙ ap (λ (x : Bool). register .current && not x) (h .ends s below pending));
+    }
+  where
+    neither : (x y : Bool) → x || y ≡ false → x ≡ false
+    neither true y e = absurd (true≢false e)
+    neither false y e = refl
+
+pub registers-ended : (ss : List Statement) (done s : ℕ) (registers : List Register) (table : List ℕ) → s < length ss → has done s ≡ false
+    → Registers ss done registers table → Registers ss (join done (only s)) (map (ended (statement ss s .destination)) registers) table
+registers-ended ss done s registers table below pending h =
+    record {
+      sized = h .sized;
+      holds = λ r low.
+          rw (List·getD-map (ended (statement ss s .destination)) registers r noRegister)
+          (holding-ended ss done s table r (getD registers r noRegister) below pending
+          (h .holds r (omega (arith, length-map registers (ended (statement ss s .destination))))));
+    }
+
+-- the statements of a unit, one after the other, none of them done before
+abbrev pub doneBy : List ℕ → ℕ → ℕ
+doneBy unit done = each (λ s so-far. join so-far (only s)) unit done
+
+abbrev pub Pending : List Statement → ℕ → List ℕ → Type 0
+Pending ss done [] = Unit
+Pending ss done (s ∷ unit) = (s < length ss) × ((has done s ≡ false) × Pending ss (join done (only s)) unit)
+
+pub registers-ended-by : (ss : List Statement) (unit : List ℕ) (done : ℕ) (registers : List Register) (table : List ℕ) → Pending ss done unit
+    → Registers ss done registers table → Registers ss (doneBy unit done) (endedBy (placesOf ss unit) registers) table
+registers-ended-by ss [] done registers table pending h = h
+registers-ended-by ss (s ∷ unit) done registers table pending h =
+    registers-ended-by ss unit (join done (only s)) (map (ended (statement ss s .destination)) registers) table (pending .1 .1)
+    (registers-ended ss done s registers table (pending .0) (pending .1 .0) h)
