@@ -7,7 +7,6 @@ use mathlib.Core.List.{List, [], _∷_, _++_, append-nil}
 use Prim.Native.Nat.{ℕ, zero, suc, _+_, _≤_, _<_}
 use native.Mathlib.Omega.{arith}
 use lib.ListN.{length, getD}
-use borrow.Author.Tests.{ne-eqb}
 use Rattle.basics.specs.Choice.{pick}
 use Rattle.basics.specs.Lists.{each}
 use Rattle.basics.specs.Sets.{has}
@@ -29,7 +28,8 @@ use Rattle.reach.proofs.Reaching.{no-path}
 use Rattle.pairs.specs.Tied.{Paired}
 use Rattle.pairs.proofs.Tables.{no-partner, lefts-below}
 use Rattle.units.specs.Lanes.{lanesOf}
-use Rattle.combine.specs.Cutting.{Tables, waitIn, fourApart, unitFrom, nextUnit, lastLane, cutAlong, cutFrom, combined}
+use Rattle.combine.specs.Cutting.{Tables, waitIn, fourApart, nextUnit, lastLane, cutAlong, cutFrom, combined}
+use Rattle.combine.proofs.Turns.{one-next, two-next, four-next, cut-ended, cut-more}
 use Rattle.combine.proofs.Waiting.{adds}
 
 -- six tests, in the order of the loop and in that of "pairwise"
@@ -42,39 +42,6 @@ six true true true false bd cd = refl
 six true true false bc bd cd = refl
 six true false ad bc bd cd = refl
 six false ac ad bc bd cd = refl
-
--- no statement more, and one unit more
-module _ (reached direct next : List ℕ) where
-  cut-ended : (k : ℕ) (t : Tables) → cutAlong k reached direct next 64 t ≡ t
-  unfolding cutAlong
-  cut-ended zero t = refl
-  cut-ended (suc k) t = refl
-
-  cut-more : (k at : ℕ) (t : Tables) → (at ≡ 64 → ⊥)
-      → cutAlong (suc k) reached direct next at t
-      ≡ cutAlong k reached direct next (getD next (lastLane (lanesOf (nextUnit reached next at))) 64) (waitIn direct (lanesOf (nextUnit reached next at)) t)
-  unfolding cutAlong
-  cut-more k at t differ =
-      ap (λ (test : Bool).
-      elim test [
-        | true ↦ t
-        | false ↦
-            cutAlong k reached direct next (getD next (lastLane (lanesOf (nextUnit reached next at))) 64)
-            (waitIn direct (lanesOf (nextUnit reached next at)) t)
-      ])
-      (ne-eqb at 64 differ)
-
-  -- the next unit, by the three statements that follow
-  next-unit : (a b c d : ℕ) → getD next a 64 ≡ b → getD next b 64 ≡ c → getD next c 64 ≡ d → nextUnit reached next a ≡ unitFrom reached a b c d
-  unfolding nextUnit
-  next-unit a b c d e f g = rw (e, f, g)
-
-  two-next : (a b c : ℕ) → (b ≡ 64 → ⊥) → unitFrom reached a b c 64 ≡ a ∷ b ∷ []
-  two-next a b c there = rw (ne-eqb b 64 there)
-
-  four-next : (a b c d : ℕ) → (b ≡ 64 → ⊥) → (d ≡ 64 → ⊥)
-      → unitFrom reached a b c d ≡ pick (fourApart reached a b c d) (a ∷ b ∷ c ∷ d ∷ []) (a ∷ b ∷ [])
-  four-next a b c d there there′ = rw (ne-eqb b 64 there, ne-eqb d 64 there′)
 
 module _ (ss : List Statement) (direct reached : List ℕ) (rowed : Rowed ss direct reached) where
   -- "pairwise independent"
@@ -120,9 +87,7 @@ module _ (ss : List Statement) (pairs : List Pair) (direct reached next : List �
     where
       found : (test : Bool) → pairwise ss (a ∷ b ∷ c ∷ d ∷ []) ≡ test → nextUnit reached next a ≡ pick test (a ∷ b ∷ c ∷ d ∷ []) (a ∷ b ∷ [])
       found test e =
-          next-unit reached direct next a b c d ab bc cd
-          ∙ four-next reached direct next a b c d (λ f. omega (arith, range .1 .0)) (λ f. omega (arith, range .1 .1 .1 .0))
-          ∙ ap (λ (t : Bool). pick t (a ∷ b ∷ c ∷ d ∷ []) (a ∷ b ∷ []))
+          four-next reached next a b c d ab bc cd (λ f. omega (arith, range .1 .0)) (λ f. omega (arith, range .1 .1 .1 .0)) test
           (four-apart ss direct reached rowed a b c d (range .0) (range .1 .0) (range .1 .1 .0) (range .1 .1 .1 .0) ∙ e)
 
       cuts : (test : Bool) → pairwise ss (a ∷ b ∷ c ∷ d ∷ []) ≡ test
@@ -157,7 +122,7 @@ module _ (ss : List Statement) (pairs : List Pair) (direct reached next : List �
       record {
         unit = a ∷ [];
         rest = [];
-        found = next-unit reached direct next a 64 64 64 (ended a e) none-past none-past;
+        found = one-next reached next a (ended a e);
         onward = subst (λ (x : ℕ). Onward x []) (sym (ended a e)) stops;
         cuts = refl;
         shorter = omega arith;
@@ -168,8 +133,7 @@ module _ (ss : List Statement) (pairs : List Pair) (direct reached next : List �
         unit = a ∷ b ∷ [];
         rest = [];
         found =
-            next-unit reached direct next a b 64 64 (follows a b e) (ended b f) none-past
-            ∙ two-next reached direct next a b 64 (λ same. omega (arith, range .1 .0));
+            two-next reached next a b 64 64 (follows a b e) (ended b f) none-past (λ same. omega (arith, range .1 .0)) refl;
         onward = subst (λ (x : ℕ). Onward x []) (sym (ended b f)) stops;
         cuts = refl;
         shorter = omega arith;
@@ -180,8 +144,7 @@ module _ (ss : List Statement) (pairs : List Pair) (direct reached next : List �
         unit = a ∷ b ∷ [];
         rest = c ∷ [];
         found =
-            next-unit reached direct next a b c 64 (follows a b e) (follows b c f) (ended c g)
-            ∙ two-next reached direct next a b c (λ same. omega (arith, range .1 .0));
+            two-next reached next a b c 64 (follows a b e) (follows b c f) (ended c g) (λ same. omega (arith, range .1 .0)) refl;
         onward = subst (λ (x : ℕ). Onward x (c ∷ [])) (sym (follows b c f)) (on (ends g));
         cuts = refl;
         shorter = omega arith;
@@ -207,12 +170,12 @@ module _ (ss : List Statement) (pairs : List Pair) (direct reached next : List �
 
   no-turn : CutAdds zero
   unfolding cut
-  no-turn at c stops range enough t = cut-ended reached direct next zero t
+  no-turn at c stops range enough t = cut-ended reached direct next zero 64 t refl
   no-turn at c (on chained) range enough t = absurd (omega (arith, chain-long chained))
 
   one-turn : (k : ℕ) → CutAdds k → CutAdds (suc k)
   unfolding cut
-  one-turn k later at c stops range enough t = cut-ended reached direct next (suc k) t
+  one-turn k later at c stops range enough t = cut-ended reached direct next (suc k) 64 t refl
   one-turn k later at c (on chained) range enough t =
       let first = first-unit chained range in
       cut-more reached direct next k at t (λ e. omega (arith, chain-first chained range))

@@ -1,3 +1,4 @@
+pub mod Turns
 pub mod Waiting
 pub mod Cutting
 pub mod Tied
