@@ -174,10 +174,11 @@ unfolding statedFacts
 all-filled ss n facts small start =
     count-up (Filled ss) (λ i. stateFacts i (statement ss i)) n facts start (λ j t below f. next-filled ss j t (omega arith) f)
 
-fact-within : (facts : List ℕ) (column s : ℕ) → s < 64 → factAt facts column s ≡ getD facts (column + s) 0
+-- a fact of one of the 64 statements is a word of the table, and others have none
+pub fact-within : (facts : List ℕ) (column s : ℕ) → s < 64 → factAt facts column s ≡ getD facts (column + s) 0
 fact-within facts column s small = rw (lt-ltb s 64 small)
 
-fact-past : (facts : List ℕ) (column s : ℕ) → 64 ≤ s → factAt facts column s ≡ 0
+pub fact-past : (facts : List ℕ) (column s : ℕ) → 64 ≤ s → factAt facts column s ≡ 0
 fact-past facts column s large = rw (le-ltb s 64 large)
 
 -- the statements are the first n of the slots

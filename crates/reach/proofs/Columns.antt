@@ -4,29 +4,23 @@ use mathlib.Core.Logic.{_⊎_, inl, inr}
 use mathlib.Core.List.{List}
 use Prim.Native.Nat.{ℕ, _+_, _*_, _≤_, _<_}
 use native.Mathlib.Omega.{arith}
-use lib.ListN.{length, getD, set, replicate, length-set, length-replicate, getD-replicate, List·getD-eq-default}
+use lib.ListN.{length, getD, set, replicate, length-set, length-replicate}
 use lib.Seq.{getD-set-other}
-use borrow.Author.Tests.{lt-ltb, le-ltb}
 use Rattle.basics.proofs.Tests.{below-or-not}
 use Rattle.basics.proofs.Counting.{count-up}
 use Rattle.meaning.specs.declared.Statement.{Statement}
 use Rattle.meaning.specs.Block.{statement}
 use Rattle.facts.specs.Facts.{factAt, stateFacts, statedFacts}
 use Rattle.facts.specs.Tied.{Stated}
+use Rattle.facts.proofs.Columns.{fact-within, fact-past, zeros}
 
--- a fact of one of the 64 statements is a word of the table, and others have none
-pub fact-within : (facts : List ℕ) (column s : ℕ) → s < 64 → factAt facts column s ≡ getD facts (column + s) 0
-fact-within facts column s low = rw (lt-ltb s 64 low)
-
-pub fact-beyond : (facts : List ℕ) (column s : ℕ) → 64 ≤ s → factAt facts column s ≡ 0
-fact-beyond facts column s high = rw (le-ltb s 64 high)
-
+-- one fact, where the words are the same
 pub same-fact : (before after : List ℕ) (column s : ℕ) → (s < 64 → getD after (column + s) 0 ≡ getD before (column + s) 0) → factAt after column s ≡ factAt before column s
 same-fact before after column s e = by (below-or-not s 64)
   where
     by : (s < 64) ⊎ (64 ≤ s) → factAt after column s ≡ factAt before column s
     by (inl low) = fact-within after column s low ∙ e low ∙ sym (fact-within before column s low)
-    by (inr high) = fact-beyond after column s high ∙ sym (fact-beyond before column s high)
+    by (inr high) = fact-past after column s high ∙ sym (fact-past before column s high)
 
 -- What a statement says by itself is kept where the first five columns are, and what is past the statements is.
 pub stated-kept : (ss : List Statement) (before after : List ℕ)
@@ -63,13 +57,7 @@ unread-set facts at v low h =
     }
 
 zeros-unread : Unread (replicate 512 0)
-zeros-unread = record { sized = length-replicate {A = ℕ} 512 0; empty = λ at high. zero-at at (below-or-not at 512) }
-  where
-    zero-at : (at : ℕ) → (at < 512) ⊎ (512 ≤ at) → getD (replicate {A = ℕ} 512 0) at 0 ≡ 0
-    zero-at at (inl low) = getD-replicate 512 at 0 0 low
-    zero-at at (inr high) =
-        let past : length (replicate {A = ℕ} 512 0) ≤ at = omega (arith, length-replicate {A = ℕ} 512 0) in
-        List·getD-eq-default (replicate 512 0) 0 past
+zeros-unread = record { sized = length-replicate {A = ℕ} 512 0; empty = λ at high. zeros 512 at }
 
 stated-unread : (slots : List Statement) (n : ℕ) → n ≤ 64 → Unread (statedFacts slots n (replicate 512 0))
 unfolding statedFacts
@@ -87,4 +75,4 @@ no-readers-yet slots n small s = by (below-or-not s 64)
   where
     by : (s < 64) ⊎ (64 ≤ s) → factAt (statedFacts slots n (replicate 512 0)) 448 s ≡ 0
     by (inl low) = fact-within (statedFacts slots n (replicate 512 0)) 448 s low ∙ stated-unread slots n small .empty (448 + s) (omega arith)
-    by (inr high) = fact-beyond (statedFacts slots n (replicate 512 0)) 448 s high
+    by (inr high) = fact-past (statedFacts slots n (replicate 512 0)) 448 s high

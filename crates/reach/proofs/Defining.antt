@@ -31,13 +31,15 @@ use Rattle.codes.specs.Codes.{operandCode}
 use Rattle.codes.specs.Fitting.{placeFits, operandFits, statementFits}
 use Rattle.codes.proofs.Places.{variable-code}
 use Rattle.codes.proofs.Operands.{constant-not-variable}
+use Rattle.codes.proofs.Fits.{left-fits, right-fits}
 use Rattle.facts.specs.Facts.{factAt}
 use Rattle.facts.specs.Places.{naming}
 use Rattle.facts.specs.Tied.{Stated, Named}
+use Rattle.facts.proofs.Columns.{fact-within}
 use Rattle.reach.specs.Rows.{lastDefinition, defineOperands, withDefinitions, addReader, addReaders, withReaders}
 use Rattle.reach.specs.Tied.{numberOf, Defined}
-use Rattle.reach.proofs.Direct.{place-writers, left-fits, right-fits, where-below}
-use Rattle.reach.proofs.Columns.{fact-within, same-fact, stated-kept}
+use Rattle.reach.proofs.Direct.{place-writers, where-below}
+use Rattle.reach.proofs.Columns.{same-fact, stated-kept}
 
 -- of those before a reader in the block, all are of the block
 reader-tests : (i reader n : ℕ) (writes : Bool) → reader ≤ n → (ltb i n && writes) && ltb i reader ≡ ltb i reader && writes

@@ -8,42 +8,29 @@ use Prim.Native.Nat.{ℕ, _+_, _-_, _^_, _≤_, _<_}
 use native.Mathlib.Omega.{arith}
 use lib.Dec.{eqb, ltb}
 use lib.Bits.{bitAnd}
-use lib.ListN.{length, getD, set, replicate, length-set, length-replicate, getD-replicate, List·getD-eq-default}
+use lib.ListN.{length, getD, set, replicate, length-set, length-replicate}
 use lib.Seq.{getD-set-same, getD-set-other}
 use borrow.Author.Tests.{eqb-true, eq-eqb, lt-ltb, le-ltb}
 use Rattle.basics.specs.Lists.{all}
 use Rattle.basics.specs.Sets.{join, has}
-use Rattle.basics.proofs.Tests.{and-left, and-right, same-test, below-or-not}
+use Rattle.basics.proofs.Tests.{and-left, same-test, below-or-not}
 use Rattle.basics.proofs.Counting.{count-up}
-use Rattle.basics.proofs.Parts.{all-at}
 use Rattle.basics.proofs.Sets.{has-nobody, has-join, has-both, has-below}
 use Rattle.meaning.specs.declared.Place.{Place}
 use Rattle.meaning.specs.declared.Operand.{Operand}
 use Rattle.meaning.specs.declared.Operand.the-variants.{Held}
 use Rattle.meaning.specs.declared.Statement.{Statement}
-use Rattle.meaning.specs.Block.{statement, blank, same, names}
+use Rattle.meaning.specs.Block.{statement, same, names}
 use Rattle.meaning.specs.Dependence.{conflicts, dependsOn}
 use Rattle.codes.specs.Codes.{placeCode, operandCode}
 use Rattle.codes.specs.Fitting.{placeFits, operandFits, statementFits}
 use Rattle.codes.proofs.Places.{from-two, below-2569, same-codes}
 use Rattle.codes.proofs.Operands.{name-codes}
+use Rattle.codes.proofs.Fits.{destination-fits, left-fits, right-fits}
 use Rattle.facts.specs.Places.{naming}
 use Rattle.facts.specs.Tied.{isPlaceCode, Named}
+use Rattle.facts.proofs.Columns.{zeros}
 use Rattle.reach.specs.Rows.{directRow, directRows}
-
--- the parts of a statement of the block fit
-module _ (ss : List Statement) (fits : all statementFits ss ≡ true) (s : ℕ) (h : s < length ss) where
-  this-fits : statementFits (statement ss s) ≡ true
-  this-fits = all-at statementFits ss s blank fits h
-
-  pub destination-fits : placeFits (statement ss s .destination) ≡ true
-  destination-fits = and-left _ _ this-fits
-
-  pub left-fits : operandFits (statement ss s .left) ≡ true
-  left-fits = and-left _ _ (and-right (placeFits (statement ss s .destination)) _ this-fits)
-
-  pub right-fits : operandFits (statement ss s .right) ≡ true
-  right-fits = and-right (operandFits (statement ss s .left)) _ (and-right (placeFits (statement ss s .destination)) _ this-fits)
 
 -- a place's code is one
 place-coded : (p : Place) → placeFits p ≡ true → isPlaceCode (placeCode p) ≡ true
@@ -146,18 +133,7 @@ pub record Filled (row : ℕ → ℕ) (k : ℕ) (rows : List ℕ) : Type 0 where
   pub rest : (s : ℕ) → k ≤ s → getD rows s 0 ≡ 0
 
 pub nothing-filled : (row : ℕ → ℕ) → Filled row 0 (replicate 64 0)
-nothing-filled row =
-    record {
-      sized = length-replicate {A = ℕ} 64 0;
-      filled = λ s low. absurd (omega arith);
-      rest = λ s high. empty s (below-or-not s 64);
-    }
-  where
-    empty : (s : ℕ) → (s < 64) ⊎ (64 ≤ s) → getD (replicate {A = ℕ} 64 0) s 0 ≡ 0
-    empty s (inl low) = getD-replicate 64 s 0 0 low
-    empty s (inr high) =
-        let past : length (replicate {A = ℕ} 64 0) ≤ s = omega (arith, length-replicate {A = ℕ} 64 0) in
-        List·getD-eq-default (replicate 64 0) 0 past
+nothing-filled row = record { sized = length-replicate {A = ℕ} 64 0; filled = λ s low. absurd (omega arith); rest = λ s high. zeros 64 s }
 
 pub one-filled : (row : ℕ → ℕ) (k : ℕ) (rows : List ℕ) (r : ℕ) → k < 64 → r ≡ row k → Filled row k rows → Filled row (k + 1) (set rows k r)
 one-filled row k rows r h e so-far =

@@ -3,3 +3,4 @@ pub mod Reaching
 pub mod Columns
 pub mod Defining
 pub mod Steps
+pub mod Declared
