@@ -8,32 +8,29 @@ use native.Mathlib.Omega.{arith}
 use lib.Dec.{eqb}
 use lib.ListN.{length, getD, set, length-set}
 use lib.Seq.{getD-set-same, getD-set-other}
-use borrow.Author.Tests.{lt-ltb, eq-eqb, ne-eqb}
-use Rattle.basics.specs.Choice.{pick}
+use borrow.Author.Tests.{eq-eqb, ne-eqb}
 use Rattle.basics.specs.Lists.{any, each}
 use Rattle.basics.specs.Sets.{has}
 use Rattle.basics.proofs.Tests.{below-or-not}
 use Rattle.basics.proofs.Finding.{any-append}
 use Rattle.meaning.specs.Schedule.{lowest, without, singles, withUnit}
 use Rattle.theorems.specs.Units.{Every, occurs}
-use Rattle.theorems.proofs.Occurs.{occurs-own, occurs-cons}
+use Rattle.theorems.proofs.Occurs.{every-at, occurs-own, occurs-cons}
 use Rattle.theorems.proofs.Waiting.{In, lowest-in}
 use Rattle.theorems.proofs.Ready.{with-present, with-absent}
 use Rattle.units.specs.Words.{unitWord}
 use Rattle.units.specs.Waiting.{neededBy, Waits}
 use Rattle.schedule.specs.Stages.{written, singleWord, singleNeed}
+use Rattle.schedule.proofs.Singles.{written-here}
 use Rattle.schedule.proofs.Taking.{numbers-without, in-keep}
 
 -- what is written for each statement stands there, and what stands elsewhere stays
 module _ (word : ℕ → ℕ) where
-  written-here : (s : ℕ) (table : List ℕ) → s < 64 → written word s table ≡ set table s (word s)
-  written-here s table h = ap (λ test. pick test (set table s (word s)) table) (lt-ltb s 64 h)
-
   pub written-length : (unit table : List ℕ) → Every (λ s. s < 64) unit → length (each (written word) unit table) ≡ length table
   written-length [] table range = refl
   written-length (s ∷ rest) table range =
       written-length rest (written word s table) (range .1)
-      ∙ ap length (written-here s table (range .0))
+      ∙ ap length (written-here word s table (range .0))
       ∙ length-set table s (word s)
 
   pub written-other : (unit table : List ℕ) (i : ℕ) → Every (λ s. s < 64) unit → occurs i unit ≡ 0
@@ -41,7 +38,7 @@ module _ (word : ℕ → ℕ) where
   written-other [] table i range absent = refl
   written-other (s ∷ rest) table i range absent =
       written-other rest (written word s table) i (range .1) (omega arith)
-      ∙ ap (λ (l : List ℕ). getD l i 0) (written-here s table (range .0))
+      ∙ ap (λ (l : List ℕ). getD l i 0) (written-here word s table (range .0))
       ∙ getD-set-other table s i (word s) 0 differ
     where
       differ : i ≡ s → ⊥
@@ -53,7 +50,7 @@ module _ (word : ℕ → ℕ) where
   written-own (s ∷ rest) table i range room there = either (below-or-not 0 (occurs i rest)) λ k. written-own rest (written word s table) i (range .1) roomy k
     where
       roomy : 64 ≤ length (written word s table)
-      roomy = omega (arith, room, ap length (written-here s table (range .0)), length-set table s (word s))
+      roomy = omega (arith, room, ap length (written-here word s table (range .0)), length-set table s (word s))
 
       either : (0 < occurs i rest) ⊎ (occurs i rest ≤ 0) → (0 < occurs i rest → getD (each (written word) rest (written word s table)) i 0 ≡ word i)
           → getD (each (written word) rest (written word s table)) i 0 ≡ word i
@@ -61,7 +58,7 @@ module _ (word : ℕ → ℕ) where
       either (inr k) later =
           let absent : occurs i rest ≡ 0 = omega arith in
           written-other rest (written word s table) i (range .1) absent
-          ∙ ap (λ (l : List ℕ). getD l i 0) (written-here s table (range .0))
+          ∙ ap (λ (l : List ℕ). getD l i 0) (written-here word s table (range .0))
           ∙ here (occurs-cons i s rest there) absent
         where
           here : (i ≡ s) ⊎ (0 < occurs i rest) → occurs i rest ≡ 0 → getD (set table s (word s)) i 0 ≡ word i
@@ -120,7 +117,7 @@ module _ (direct : List ℕ) (units : List (List ℕ)) (table needs : List ℕ) 
     (others : (unit : List ℕ) → In unit (without pack units) → occurs (lowest unit) pack ≡ 0)
     (table-room : 64 ≤ length table)
     (needs-room : 64 ≤ length needs)
-    (single-needs : (s : ℕ) → singleNeed direct s ≡ neededBy direct (s ∷ []))
+    (single-needs : (s : ℕ) → s < 64 → singleNeed direct s ≡ neededBy direct (s ∷ []))
   where
     kept-unit : (unit : List ℕ) → In unit (without pack units) → In unit units
     kept-unit unit there = in-keep (λ o. not (eqb (lowest o) (lowest pack))) units unit there
@@ -168,7 +165,7 @@ module _ (direct : List ℕ) (units : List (List ℕ)) (table needs : List ℕ) 
         need unit (inl there) =
             let found = single-of pack unit there in
             written-own (singleNeed direct) pack needs (lowest unit) range needs-room (found .1)
-            ∙ single-needs (lowest unit)
+            ∙ single-needs (lowest unit) (every-at (λ (s : ℕ). s < 64) pack range (lowest unit) (found .1))
             ∙ ap (neededBy direct) (sym (found .0))
         need unit (inr there) =
             written-other (singleNeed direct) pack needs (lowest unit) range (others unit there) ∙ waits .need unit (kept-unit unit there)

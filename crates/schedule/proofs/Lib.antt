@@ -1,5 +1,8 @@
 pub mod Searches
+pub mod Walking
+pub mod Turns
 pub mod Words
+pub mod Singles
 pub mod Members
 pub mod Taking
 pub mod Dissolving

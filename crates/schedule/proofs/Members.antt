@@ -1,18 +1,15 @@
--- A unit's lanes, met one after the other, are its statements; and as a set they are what the unit adds to the scheduled ones.
-use mathlib.Core.Path.{_≡_, refl, sym, ap, _∙_}
+-- A unit's lanes, met one after the other, are its statements.
+use mathlib.Core.Path.{_≡_, refl, ap, _∙_}
 use mathlib.Core.List.{List, [], _∷_}
 use Prim.Native.Nat.{ℕ, _≤_, _<_}
 use native.Mathlib.Omega.{arith}
 use lib.Bits.{or-zero-r}
 use lib.ListN.{length, getD}
-use borrow.Author.Tests.{lt-ltb}
-use Rattle.basics.specs.Choice.{pick}
 use Rattle.basics.specs.Lists.{each}
-use Rattle.basics.specs.Sets.{nobody, only, join}
-use Rattle.basics.proofs.Sets.{join-assoc}
+use Rattle.basics.specs.Sets.{only, join}
 use Rattle.meaning.specs.Schedule.{withUnit}
 use Rattle.theorems.specs.Units.{Every}
-use Rattle.units.specs.Lanes.{lanesOf, memberLane, memberLanes}
+use Rattle.units.proofs.Lanes.{member-only}
 use Rattle.schedule.specs.Stages.{withSingle}
 
 -- where a lane that is not there changes nothing
@@ -28,19 +25,9 @@ lanes-each f absent (x ∷ y ∷ z ∷ w ∷ v ∷ rest) h a = absurd (omega ari
 each-with : (unit : List ℕ) (set : ℕ) → Every (λ s. s < 64) unit → each withSingle unit set ≡ withUnit unit set
 each-with [] set range = refl
 each-with (s ∷ rest) set range =
-    ap (λ (own : ℕ). each withSingle rest (join set own)) (ap (λ test. pick test (only s) nobody) (lt-ltb s 64 (range .0)))
+    ap (λ (own : ℕ). each withSingle rest (join set own)) (member-only s (range .0))
     ∙ each-with rest (join set (only s)) (range .1)
 
 pub singles-with : (unit : List ℕ) (set : ℕ) → length unit ≤ 4 → Every (λ s. s < 64) unit
     → withSingle (getD unit 3 64) (withSingle (getD unit 2 64) (withSingle (getD unit 1 64) (withSingle (getD unit 0 64) set))) ≡ withUnit unit set
 singles-with unit set h range = lanes-each withSingle or-zero-r unit h set ∙ each-with unit set range
-
-join-four : (set a b c d : ℕ) → join set (join (join (join a b) c) d) ≡ join (join (join (join set a) b) c) d
-join-four set a b c d =
-    sym (join-assoc set (join (join a b) c) d)
-    ∙ ap (λ (x : ℕ). join x d) (sym (join-assoc set (join a b) c) ∙ ap (λ (x : ℕ). join x c) (sym (join-assoc set a b)))
-
-pub members-with : (unit : List ℕ) (set : ℕ) → length unit ≤ 4 → Every (λ s. s < 64) unit → join set (memberLanes (lanesOf unit)) ≡ withUnit unit set
-members-with unit set h range =
-    join-four set (memberLane (getD unit 0 64)) (memberLane (getD unit 1 64)) (memberLane (getD unit 2 64)) (memberLane (getD unit 3 64))
-    ∙ singles-with unit set h range

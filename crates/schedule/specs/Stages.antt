@@ -7,6 +7,7 @@ use lib.Bits.{bitAnd, bitXor}
 use lib.ListN.{getD, set}
 use Rattle.basics.specs.Choice.{pick}
 use Rattle.basics.specs.Sets.{nobody, only, join, has}
+use Rattle.schedule.specs.declared.Progress.{Progress}
 use Rattle.units.specs.Words.{unitWord}
 use Rattle.units.specs.Lanes.{lanesOf, lane, lanesWord, wordLanes, memberLane, memberLanes, neededLanes}
 
@@ -21,6 +22,9 @@ pub record Stage : Type 0 where
 abbrev pub stage : List ℕ → List ℕ → List ℕ → ℕ → ℕ → ℕ → Stage
 stage table needs order waiting scheduled size =
     record { table = table; needs = needs; order = order; waiting = waiting; scheduled = scheduled; size = size }
+
+abbrev pub stageOf : List ℕ → List ℕ → List ℕ → Progress → Stage
+stageOf table needs order progress = stage table needs order (progress .waiting) (progress .scheduled) (progress .count)
 
 -- "It is ready when all that its statements depend on is scheduled."
 abbrev pub wordReady : ℕ → ℕ → Bool

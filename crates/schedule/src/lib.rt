@@ -5,7 +5,7 @@ ghost use Prim.Native.Nat.{_+_, _≤_, _<_};
 ghost use lib.ListN.{getD, set as replaced};
 ghost use Rattle.basics.specs.Sets.{join};
 ghost use Rattle.units.specs.Lanes.{lanesWord, wordLanes, memberLane, memberLanes};
-ghost use Rattle.schedule.specs.Stages.{stage, wordReady, readyAt, packAt, lowestWaiting, withoutOne, written, singleWord, singleNeed, inLanes, withSingle, stepped, scheduledTables};
+ghost use Rattle.schedule.specs.Stages.{stageOf, wordReady, readyAt, packAt, lowestWaiting, withoutOne, written, singleWord, singleNeed, inLanes, withSingle, stepped, scheduledTables};
 
 // The units that wait, by lowest number, the statements that are scheduled, and how many units are.
 pub struct Progress {
@@ -123,8 +123,8 @@ fn step(
     progress: Progress,
 ) -> Progress
     requires { ⌜ progress .count < 128 ⌝ }
-    ensures { λ r. ⌜ stage (now (units .exit)) (now (needs .exit)) (now (order .exit)) (r .waiting) (r .scheduled) (r .count)
-        ≡ stepped (now (direct .entry)) (stage (now (units .entry)) (now (needs .entry)) (now (order .entry)) (progress .waiting) (progress .scheduled) (progress .count)) ⌝ }
+    ensures { λ r. ⌜ stageOf (now (units .exit)) (now (needs .exit)) (now (order .exit)) r
+        ≡ stepped (now (direct .entry)) (stageOf (now (units .entry)) (now (needs .entry)) (now (order .entry)) progress) ⌝ }
 {
     let ready = lowest_ready(needs, progress.waiting, progress.scheduled);
     if ready < rows::NONE {
