@@ -21,6 +21,7 @@ use Rattle.meaning.specs.declared.Operand.{Operand}
 use Rattle.meaning.specs.declared.Statement.{Statement}
 use Rattle.meaning.specs.Block.{statement, blank, names}
 use Rattle.meaning.specs.List.{lanesFit}
+use Rattle.meaning.specs.Schedule.{withUnit}
 use Rattle.meaning.specs.Emission.{Register, ended, sameTuple, holder}
 use Rattle.theorems.specs.Steps.{noRegister, holding, placesOf, endedBy}
 use Rattle.codes.specs.Codes.{placeCode}
@@ -291,15 +292,12 @@ registers-ended ss done s registers table below pending h =
     }
 
 -- the statements of a unit, one after the other, none of them done before
-abbrev pub doneBy : List ℕ → ℕ → ℕ
-doneBy unit done = each (λ s so-far. join so-far (only s)) unit done
-
 abbrev pub Pending : List Statement → ℕ → List ℕ → Type 0
 Pending ss done [] = Unit
 Pending ss done (s ∷ unit) = (s < length ss) × ((has done s ≡ false) × Pending ss (join done (only s)) unit)
 
 pub registers-ended-by : (ss : List Statement) (unit : List ℕ) (done : ℕ) (registers : List Register) (table : List ℕ) → Pending ss done unit
-    → Registers ss done registers table → Registers ss (doneBy unit done) (endedBy (placesOf ss unit) registers) table
+    → Registers ss done registers table → Registers ss (withUnit unit done) (endedBy (placesOf ss unit) registers) table
 registers-ended-by ss [] done registers table pending h = h
 registers-ended-by ss (s ∷ unit) done registers table pending h =
     registers-ended-by ss unit (join done (only s)) (map (ended (statement ss s .destination)) registers) table (pending .1 .1)
