@@ -11,12 +11,21 @@ use Rattle.meaning.specs.List.{Instruction, listPrice, listBytes}
 use Rattle.meaning.specs.Calls.{ListMade}
 use Rattle.theorems.proofs.Records.{constantsFit}
 use Rattle.theorems.proofs.Readable.{Readable}
+use Rattle.facts.specs.Tied.{Stated, Named}
+use Rattle.reach.specs.Tied.{Defined}
 use Rattle.maker.specs.declared.Made.{Made}
 
 -- what reading promises of a block
 pub record Legal (b : Block) : Type 0 where
   pub readable : Readable b
   pub constants : all constantsFit (b .statements) ≡ true
+
+-- the tables of a block say what the phases ask of its statements
+pub record Prepared (b : Block) (facts numbers writers lefts rights : List ℕ) : Type 0 where
+  pub legal : Legal b
+  pub stated : Stated (b .statements) facts
+  pub defined : Defined (b .statements) facts
+  pub named : Named (b .statements) numbers writers lefts rights
 
 -- the list stands in the first so many bytes, and costs so much
 pub record Holds (ss : List Statement) (list : List Instruction) (out : List ℕ) (size price : ℕ) : Type 0 where
