@@ -1,7 +1,7 @@
 -- Chains, partners and pairs, looked up in the table that has for each left statement the right one.
 use mathlib.Core.Path.{_≡_, refl, sym, ap, _∙_}
 use mathlib.Core.Logic.{_⊎_, inl, inr}
-use mathlib.Core.Bool.{Bool, true, false, _&&_, _||_, not}
+use mathlib.Core.Bool.{Bool, true, false, _&&_, _||_, not, and-false, or-false}
 use mathlib.Core.Option.{Option, none, some}
 use mathlib.Core.List.{List, [], _∷_}
 use Prim.Native.Nat.{ℕ, zero, suc, _<_, _≤_}
@@ -48,17 +48,13 @@ pair-partner (p ∷ pairs) s t differ =
     ap (λ (test : Bool). test && eqb t (p .right) || isAdmitted pairs (pair s t)) (eqb-back s (p .left))
     ∙ either (eqb (p .left) s) refl (pair-partner pairs s t (differ .1))
   where
-    or-nothing : (a : Bool) → a || false ≡ a
-    or-nothing true = refl
-    or-nothing false = refl
-
     either : (test : Bool) → eqb (p .left) s ≡ test → isAdmitted pairs (pair s t) ≡ isThis (partner pairs s) t
         → test && eqb t (p .right) || isAdmitted pairs (pair s t) ≡ isThis (chosen test p (partner pairs s)) t
     either true own later =
         let e : s ≡ p .left = sym (eqb-true (p .left) s own) in
         let alone : partner pairs s ≡ none = rw e (no-partner (p .left) pairs (differ .0)) in
         ap (λ (test : Bool). eqb t (p .right) || test) (later ∙ ap (λ (o : Option ℕ). isThis o t) alone)
-        ∙ or-nothing (eqb t (p .right))
+        ∙ or-false (eqb t (p .right))
         ∙ eqb-back t (p .right)
     either false other later = later
 
@@ -119,23 +115,19 @@ module _ (pairs : List Pair) (next : List ℕ) (partners : (s : ℕ) → getD ne
   admitted-tied differ left-below s t =
       ap (λ (u : ℕ). ltb s 64 && (ltb t 64 && eqb u t)) (partners s) ∙ either (partner pairs s) refl ∙ sym (pair-partner pairs s t differ)
     where
-      and-nothing : (a : Bool) → a && false ≡ false
-      and-nothing true = refl
-      and-nothing false = refl
-
       both-below : (u : ℕ) → u < 64 → ltb t 64 && eqb u t ≡ eqb u t
       both-below u h = by (eqb u t) refl
         where
           by : (test : Bool) → eqb u t ≡ test → ltb t 64 && test ≡ test
           by true e = rw (lt-ltb t 64 (omega (arith, eqb-true u t e)))
-          by false e = and-nothing (ltb t 64)
+          by false e = and-false (ltb t 64)
 
       none-there : (t < 64) ⊎ (64 ≤ t) → ltb t 64 && eqb 64 t ≡ false
-      none-there (inl h) = rw (ne-eqb 64 t (λ f. omega arith)) (and-nothing (ltb t 64))
+      none-there (inl h) = rw (ne-eqb 64 t (λ f. omega arith)) (and-false (ltb t 64))
       none-there (inr h) = rw (le-ltb t 64 h)
 
       either : (o : Option ℕ) → partner pairs s ≡ o → ltb s 64 && (ltb t 64 && eqb (numberOf o) t) ≡ isThis o t
-      either none e = ap (λ (test : Bool). ltb s 64 && test) (none-there (below-or-not t 64)) ∙ and-nothing (ltb s 64)
+      either none e = ap (λ (test : Bool). ltb s 64 && test) (none-there (below-or-not t 64)) ∙ and-false (ltb s 64)
       either (some u) e =
           let here : s < 64 = partner-related (λ l r. l < 64) pairs s u left-below e in
           rw (lt-ltb s 64 here) (both-below u (right-below s u e))

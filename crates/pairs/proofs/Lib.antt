@@ -1,5 +1,6 @@
 pub mod Tables
 pub mod Leading
 pub mod May
-pub mod Neighbours
+pub mod InRow
 pub mod Seeding
+pub mod Steps

@@ -29,7 +29,7 @@ use Rattle.reach.specs.Tied.{Rowed}
 use Rattle.pairs.specs.Admission.{Tables, empty, admitTo, tablesOf, mayPair, neighboursOf, seedTables, seededTables}
 use Rattle.pairs.proofs.Tables.{admit-tables}
 use Rattle.pairs.proofs.May.{may-pair}
-use Rattle.pairs.proofs.Neighbours.{neighbours-found}
+use Rattle.pairs.proofs.InRow.{neighbours-found}
 
 -- who is left in a pair is left in no other
 left-taken : (ss : List Statement) (pairs : List Pair) (s t : ℕ) → isLeft pairs s ≡ true → mayBeAdmitted ss pairs (pair s t) ≡ false

@@ -2,7 +2,7 @@
 -- who is right in one.
 use mathlib.Core.Path.{_≡_, refl, sym, ap, _∙_}
 use mathlib.Core.Logic.{_⊎_, inl, inr}
-use mathlib.Core.Bool.{Bool, true, false, _||_}
+use mathlib.Core.Bool.{Bool, true, false, _||_, or-false}
 use mathlib.Core.Option.{Option, none, some}
 use mathlib.Core.List.{List, [], _∷_, map}
 use Prim.Native.Nat.{ℕ, zero, suc, _+_, _≤_, _<_}
@@ -66,11 +66,7 @@ onto-at (p ∷ pairs) t (suc i) d h room =
 
 -- who is right in one
 onto-rights : (pairs : List Pair) (t : Tables) (s : ℕ) → has (onto pairs t .rights) s ≡ has (t .rights) s || isRight pairs s
-onto-rights [] t s = or-nothing (has (t .rights) s)
-  where
-    or-nothing : (a : Bool) → a ≡ a || false
-    or-nothing true = refl
-    or-nothing false = refl
+onto-rights [] t s = sym (or-false (has (t .rights) s))
 onto-rights (p ∷ pairs) t s =
     onto-rights pairs (admitTo p t) s
     ∙ ap (λ (test : Bool). test || isRight pairs s) (has-join (t .rights) (only (p .right)) s ∙ ap (λ (test : Bool). has (t .rights) s || test) (has-only (p .right) s))

@@ -12,7 +12,7 @@ use Rattle.meaning.specs.declared.Statement.{Statement}
 use Rattle.meaning.specs.Block.{statement}
 use Rattle.meaning.specs.Pairs.{Pair}
 use Rattle.rows.specs.Walk.{walk}
-use Rattle.codes.specs.Codes.{placeCode, operandCode}
+use Rattle.codes.specs.Codes.{placeCode, operandCode, isCellCode}
 use Rattle.facts.specs.Facts.{factAt}
 use Rattle.facts.specs.Places.{naming}
 use Rattle.reach.specs.Rows.{noPath}
@@ -67,11 +67,14 @@ abbrev pub firstAdmitted : List ℕ → List ℕ → Tables → ℕ → ℕ → 
 firstAdmitted facts reached t s candidates =
     walk 64 candidates (λ u found. pick (eqb found 64 && mayPair facts reached t s u) u found) 64
 
--- the statements that have in some position a cell one above this statement's
+-- the statements that have in a position the cell one above this code's, and that have one in some position
+abbrev pub cellsAbove : List ℕ → List ℕ → ℕ → ℕ
+cellsAbove numbers named code = pick (isCellCode code) (naming numbers named (code + 1)) nobody
+
 abbrev pub neighboursOf : Statement → List ℕ → List ℕ → List ℕ → List ℕ → ℕ
 neighboursOf s numbers writers lefts rights =
-    join (join (naming numbers writers (placeCode (s .destination) + 1)) (naming numbers lefts (operandCode (s .left) + 1)))
-    (naming numbers rights (operandCode (s .right) + 1))
+    join (join (cellsAbove numbers writers (placeCode (s .destination))) (cellsAbove numbers lefts (operandCode (s .left))))
+    (cellsAbove numbers rights (operandCode (s .right)))
 
 abbrev pub seedTables : List ℕ → List ℕ → ℕ → ℕ → Tables → Tables
 seedTables facts reached s candidates t =

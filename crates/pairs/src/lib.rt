@@ -7,7 +7,7 @@ ghost use mathlib.Core.Path.{_≡_};
 ghost use mathlib.Core.List.{[]};
 ghost use Prim.Native.Nat.{_+_, _≤_, _<_};
 ghost use Rattle.meaning.specs.Pairs.{pair};
-ghost use Rattle.pairs.specs.Admission.{tables, admittedIn, admitTo, leadsTo, mayJoin, mayPair, firstAdmitted, neighboursOf, seedTables, seededTables};
+ghost use Rattle.pairs.specs.Admission.{tables, admittedIn, admitTo, leadsTo, mayJoin, mayPair, firstAdmitted, cellsAbove, neighboursOf, seedTables, seededTables};
 use meaning::Block;
 use meaning::Statement;
 
@@ -106,17 +106,27 @@ pub fn admit(order: &mut [u8], next: &mut [u8], admitted: Admitted, s: usize, t:
     }
 }
 
-// The statements that have "in some position (destination, left, right)" a cell of the same array,
-// one above this statement's.
+// The statements that have in this position a cell of the same array, one above the one that the
+// code stands for.
+fn above(numbers: &[u8], named: &[u64], code: u64) -> u64
+    ensures { λ r. ⌜ r ≡ cellsAbove (now (numbers .entry)) (now (named .entry)) code ⌝ }
+{
+    if codes::is_cell(code) {
+        return facts::naming(numbers, named, code + 1);
+    }
+    0
+}
+
+// And "in some position (destination, left, right)".
 fn neighbours(s: Statement, numbers: &[u8], writers: &[u64], lefts: &[u64], rights: &[u64]) -> u64
     ensures { λ r. ⌜ r ≡ neighboursOf s (now (numbers .entry)) (now (writers .entry)) (now (lefts .entry)) (now (rights .entry)) ⌝ }
 {
     let destination = s.destination;
     let left = s.left;
     let right = s.right;
-    let d = facts::naming(numbers, writers, codes::place_code(destination) + 1);
-    let l = facts::naming(numbers, lefts, codes::operand_code(left) + 1);
-    let r = facts::naming(numbers, rights, codes::operand_code(right) + 1);
+    let d = above(numbers, writers, codes::place_code(destination));
+    let l = above(numbers, lefts, codes::operand_code(left));
+    let r = above(numbers, rights, codes::operand_code(right));
     d | l | r
 }
 
