@@ -1,7 +1,7 @@
 -- The laws of sets: who is in nobody, in one alone, in two joined, in what two share, in what only one of two has, and in all below a
 -- number; and that sets with the same members are the same number.
 use mathlib.Core.Path.{_≡_, refl, sym, ap, _∙_}
-use mathlib.Core.Bool.{Bool, true, false, _&&_, _||_, not, false≢true}
+use mathlib.Core.Bool.{Bool, true, false, _&&_, _||_, not, false≢true, or-assoc}
 use Prim.Native.Nat.{ℕ, zero, suc, _+_, _-_, _/_, _%_, _^_, _≤_, _<_, max, min}
 use native.Mathlib.Nat.{zero-div, pow-suc, div-eq-of-lt, lt-of-lt-of-le}
 use native.Mathlib.Omega.{arith}
@@ -159,7 +159,3 @@ join-assoc a b c =
     ∙ or-assoc (has a t) (has b t) (has c t)
     ∙ ap (λ (x : Bool). has a t || x) (sym (has-join b c t))
     ∙ sym (has-join a (join b c) t)
-  where
-    or-assoc : (x y z : Bool) → (x || y) || z ≡ x || (y || z)
-    or-assoc true y z = refl
-    or-assoc false y z = refl

@@ -2,23 +2,23 @@
 -- rows by walks, are the rows of the definition.
 use mathlib.Core.Path.{_≡_, refl, sym, ap, _∙_, subst}
 use mathlib.Core.Logic.{_⊎_, inl, inr}
-use mathlib.Core.Bool.{Bool, true, false, _||_, not, false≢true, and-assoc, or-false, or-assoc}
+use mathlib.Core.Bool.{Bool, true, false, _||_, not, false≢true, and-assoc, or-false, or-assoc, _&&_, and-false}
 use mathlib.Core.List.{List, [], _∷_, _++_}
 use Prim.Native.Nat.{ℕ, _+_, _^_, _≤_, _<_}
 use native.Mathlib.Omega.{arith}
-use lib.Dec.{eqb}
+use lib.Dec.{eqb, ltb}
 use lib.ListN.{length, getD, set, replicate, length-append, length-set, length-replicate, List·getD-append}
 use lib.Seq.{getD-at, getD-set-same, getD-set-other}
-use borrow.Author.Tests.{eqb-true, eq-eqb, lt-ltb}
+use borrow.Author.Tests.{eqb-true, eq-eqb, lt-ltb, le-ltb}
 use Rattle.basics.specs.Choice.{pick}
 use Rattle.basics.specs.Lists.{all}
 use Rattle.basics.specs.Sets.{nobody, only, join, has}
 use Rattle.basics.proofs.Tests.{below-or-not, or-left, or-right}
 use Rattle.basics.proofs.Counting.{count-both}
-use Rattle.basics.proofs.Sets.{has-nobody, has-only, has-join, same-sets, set-bound}
+use Rattle.basics.proofs.Sets.{has-nobody, has-only, has-join, same-sets, no-one, set-bound}
 use Rattle.meaning.specs.declared.Statement.{Statement}
 use Rattle.meaning.specs.Block.{statement}
-use Rattle.meaning.specs.Dependence.{dependsOn, Path, direct as straight, through, reachedBy, reachability, reaches, independent}
+use Rattle.meaning.specs.Dependence.{conflicts, dependsOn, Path, direct as straight, through, reachedBy, reachability, reaches, independent}
 use Rattle.meaning.proofs.Paths.{reaches-path}
 use Rattle.rows.proofs.Walks.{walk-counts}
 use Rattle.codes.specs.Fitting.{statementFits}
@@ -178,6 +178,13 @@ module _ (ss : List Statement) (direct reached : List ℕ) (rowed : Rowed ss dir
   no-path s t low high =
       rw (rowed .reaching s low, rowed .reaching t high, lt-ltb s (length ss) low, lt-ltb t (length ss) high)
       (sym (and-assoc (not (eqb s t)) (not (reaches ss s t)) (not (reaches ss t s))))
+
+  -- what is no statement depends on nothing
+  pub no-row : (s : ℕ) → length ss ≤ s → getD direct s 0 ≡ nobody
+  no-row s high = no-one (getD direct s 0) (λ e. rowed .depends s e ∙ outside (ltb e s) e)
+    where
+      outside : (before : Bool) (e : ℕ) → before && ltb s (length ss) && conflicts (statement ss s) (statement ss e) ≡ false
+      outside before e = rw (le-ltb s (length ss) high, and-false before)
 
   -- the rows are words
   pub direct-small : (s : ℕ) → length ss ≤ 64 → getD direct s 0 < 2 ^ 64

@@ -1,7 +1,7 @@
 -- A pack is dissolved: its statements wait as singles, each at its own number, and the other units wait as they did.
 use mathlib.Core.Path.{_≡_, refl, sym, ap, _∙_}
 use mathlib.Core.Logic.{_⊎_, inl, inr}
-use mathlib.Core.Bool.{Bool, true, false, _&&_, _||_, not}
+use mathlib.Core.Bool.{true, false, _||_, not, or-true, and-true}
 use mathlib.Core.List.{List, [], _∷_, _++_}
 use Prim.Native.Nat.{ℕ, _+_, _≤_, _<_}
 use native.Mathlib.Omega.{arith}
@@ -87,11 +87,7 @@ single-number (s ∷ rest) t there = either (occurs-cons t s rest there) λ k. s
     either : (t ≡ s) ⊎ (0 < occurs t rest) → (0 < occurs t rest → any (λ unit. eqb (lowest unit) t) (singles rest) ≡ true)
         → eqb s t || any (λ unit. eqb (lowest unit) t) (singles rest) ≡ true
     either (inl e) later = rw (eq-eqb s t (sym e))
-    either (inr k) later = rw (later k) (always (eqb s t))
-      where
-        always : (a : Bool) → a || true ≡ true
-        always true = refl
-        always false = refl
+    either (inr k) later = rw (later k) (or-true (eqb s t))
 
 pub no-single : (pack : List ℕ) (t : ℕ) → occurs t pack ≡ 0 → any (λ unit. eqb (lowest unit) t) (singles pack) ≡ false
 no-single [] t absent = refl
@@ -134,14 +130,10 @@ module _ (direct : List ℕ) (units : List (List ℕ)) (table needs : List ℕ) 
             with-absent pack waiting t absent
             ∙ waits .numbers t
             ∙ rw (no-single pack t absent, numbers-without (lowest pack) t units, ne-eqb (lowest pack) t (differ absent))
-            (stays (any (λ unit. eqb (lowest unit) t) units))
+            (sym (and-true (any (λ unit. eqb (lowest unit) t) units)))
           where
             differ : occurs t pack ≡ 0 → lowest pack ≡ t → ⊥
             differ absent e = omega (arith, absent, lowest-in pack filled, ap (λ (x : ℕ). occurs x pack) e)
-
-            stays : (a : Bool) → a ≡ a && true
-            stays true = refl
-            stays false = refl
 
     pub dissolved-tables : Waits direct (singles pack ++ without pack units) (each (written singleWord) pack table)
         (each (written (singleNeed direct)) pack needs) (withUnit pack waiting)

@@ -1,7 +1,7 @@
 -- "Schedule": one step over the tables is one step of the schedule, and so the words in the order are those of the scheduled units.
 use mathlib.Core.Path.{_≡_, refl, sym, ap, subst, _∙_}
 use mathlib.Core.Logic.{_⊎_, inl, inr}
-use mathlib.Core.Bool.{Bool, true, false, _&&_, false≢true}
+use mathlib.Core.Bool.{Bool, true, false, false≢true}
 use mathlib.Core.Option.{Option, none, some}
 use mathlib.Core.List.{List, [], _∷_, _++_, append-nil}
 use Prim.Native.Nat.{ℕ, zero, suc, _+_, _≤_, _<_}
@@ -9,18 +9,17 @@ use native.Mathlib.Omega.{arith}
 use lib.Dec.{eqb, ltb}
 use lib.ListN.{length, getD, set, length-append, length-set}
 use lib.Seq.{append-snoc}
-use borrow.Author.Tests.{le-ltb}
 use Rattle.basics.specs.Lists.{flat, each}
 use Rattle.basics.specs.Sets.{nobody, join}
-use Rattle.basics.proofs.Sets.{no-one, not-nobody}
+use Rattle.basics.proofs.Sets.{not-nobody}
 use Rattle.meaning.specs.declared.Statement.{Statement}
-use Rattle.meaning.specs.Dependence.{dependsOn}
 use Rattle.meaning.specs.Schedule.{lowest, isPack, isReady, lowestUnit, without, singles, withUnit, scheduleFrom, schedule}
 use Rattle.theorems.specs.Units.{Every, occurs, Fits, Units}
 use Rattle.theorems.proofs.Occurs.{every-weaker}
 use Rattle.theorems.proofs.Waiting.{In, sums, sums-append, sums-in, every-in, every-without, lowest-in, Finds, finds}
 use Rattle.theorems.proofs.Schedule.{fits-filled, Waits as Partition, filled, at-most-once, taken as sum-taken, left-waiting, dissolved-waits, all-wait, no-more-than-block}
 use Rattle.reach.specs.Tied.{Rowed}
+use Rattle.reach.proofs.Reaching.{no-row}
 use Rattle.units.specs.Words.{InOrder}
 use Rattle.units.specs.Waiting.{Waits}
 use Rattle.units.proofs.Lanes.{Laned, one, fits-laned, lanes-read, lowest-small, members-with, needed-lanes}
@@ -64,17 +63,6 @@ nothing-comes (suc k) ss units set unready unpacked =
 -- the scheduled units so far stand in the order of the stage
 abbrev Stands : List (List ℕ) → Stage → Type 0
 Stands units s = InOrder units (s .order) (s .size)
-
--- what is no statement depends on nothing
-beyond : (ss : List Statement) (direct reached : List ℕ) → Rowed ss direct reached → length ss ≤ 64 → getD direct 64 0 ≡ nobody
-beyond ss direct reached rowed small = no-one (getD direct 64 0) (λ t. rowed .depends 64 t ∙ outside t)
-  where
-    neither : (a b : Bool) → (a && false) && b ≡ false
-    neither true b = refl
-    neither false b = refl
-
-    outside : (t : ℕ) → dependsOn ss 64 t ≡ false
-    outside t = rw (le-ltb 64 (length ss) small) (neither (ltb t 64) _)
 
 module _ (ss : List Statement) (direct reached : List ℕ) (rowed : Rowed ss direct reached) (small : length ss ≤ 64) where
   -- what holds at each stage: the units that wait and those that are scheduled
@@ -181,7 +169,7 @@ module _ (ss : List Statement) (direct reached : List ℕ) (rowed : Rowed ss dir
               (subst (λ (needs : List ℕ). Waits direct next (each (written singleWord) pack (s .table)) needs (dissolved direct (lowest pack) s .waiting)) (sym needs-met)
               (subst (λ (waiting : ℕ). Waits direct next (each (written singleWord) pack (s .table)) (each (written (singleNeed direct)) pack (s .needs)) waiting) (sym waiting-met)
               (dissolved-tables direct units (s .table) (s .needs) (s .waiting) pack (follows .waits) (fits-filled ss pack known) (in-word pack known) others
-              (follows .table-room) (follows .needs-room) (λ t h. needed-lanes direct (beyond ss direct reached rowed small) (one {a = t} h)))));
+              (follows .table-room) (follows .needs-room) (λ t h. needed-lanes direct (no-row ss direct reached rowed 64 small) (one {a = t} h)))));
           ordered = follows .ordered;
           room =
               omega (

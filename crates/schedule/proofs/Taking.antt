@@ -1,7 +1,7 @@
 -- One unit is taken: it waits no longer, its statements are scheduled, and its word stands behind the others.
 use mathlib.Core.Path.{_≡_, refl, sym, ap, _∙_}
 use mathlib.Core.Logic.{_⊎_, inl, inr}
-use mathlib.Core.Bool.{Bool, true, false, _&&_, _||_, not, false≢true}
+use mathlib.Core.Bool.{Bool, true, false, _&&_, _||_, not, false≢true, and-true, and-false}
 use mathlib.Core.List.{List, [], _∷_, _++_}
 use Prim.Native.Nat.{ℕ, _+_, _≤_, _<_}
 use native.Mathlib.Omega.{arith}
@@ -30,16 +30,8 @@ has-without set i s = by (has set i) refl (has set s) refl (eqb i s) refl
 
     by : (own : Bool) → has set i ≡ own → (other : Bool) → has set s ≡ other → (same : Bool) → eqb i s ≡ same
         → has (pick own (bitXor set (only i)) set) s ≡ other && not same
-    by false e other f true g = f ∙ sym (here false other e f g) ∙ gone other
-      where
-        gone : (a : Bool) → false ≡ a && false
-        gone true = refl
-        gone false = refl
-    by false e other f false g = f ∙ stays other
-      where
-        stays : (a : Bool) → a ≡ a && true
-        stays true = refl
-        stays false = refl
+    by false e other f true g = f ∙ sym (here false other e f g) ∙ sym (and-false other)
+    by false e other f false g = f ∙ sym (and-true other)
     by true e true f same g = has-differ set (only i) s ∙ rw (f, has-only i s, g)
     by true e false f true g = absurd (false≢true (sym (here true false e f g)))
     by true e false f false g = has-differ set (only i) s ∙ rw (f, has-only i s, g)
@@ -53,18 +45,11 @@ pub numbers-without : (k s : ℕ) (units : List (List ℕ))
 numbers-without k s [] = refl
 numbers-without k s (u ∷ us) = by (eqb (lowest u) k) refl (eqb (lowest u) s) refl (eqb k s) refl (numbers-without k s us)
   where
-    rest : List (List ℕ)
-    rest = keep (λ other. not (eqb (lowest other) k)) us
-
     by : (dropped : Bool) → eqb (lowest u) k ≡ dropped → (own : Bool) → eqb (lowest u) s ≡ own → (same : Bool) → eqb k s ≡ same
         → numbered-by s (keep (λ other. not (eqb (lowest other) k)) us) ≡ numbered-by s us && not (eqb k s)
         → numbered-by s (elim (not dropped) [ true ↦ u ∷ keep (λ other. not (eqb (lowest other) k)) us | false ↦ keep (λ other. not (eqb (lowest other) k)) us ])
         ≡ (own || numbered-by s us) && not same
-    by true d true o true e later = later ∙ rw e (none (numbered-by s us))
-      where
-        none : (a : Bool) → a && false ≡ false
-        none true = refl
-        none false = refl
+    by true d true o true e later = later ∙ rw e (and-false (numbered-by s us))
     by true d true o false e later = absurd (eqb-false k s e (sym (eqb-true (lowest u) k d) ∙ eqb-true (lowest u) s o))
     by true d false o same e later = later ∙ rw e
     by false d true o true e later = absurd (eqb-false (lowest u) k d (eqb-true (lowest u) s o ∙ sym (eqb-true k s e)))

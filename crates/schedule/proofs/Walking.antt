@@ -1,6 +1,6 @@
 -- The loop that searches a set from its lowest on: it ends where the set is empty, stops where the lowest passes, and goes on behind it.
 use mathlib.Core.Path.{_≡_, refl, sym, ap, _∙_}
-use mathlib.Core.Bool.{Bool, true, false, _&&_, not}
+use mathlib.Core.Bool.{Bool, true, false, _&&_, not, and-true, and-false}
 use Prim.Native.Nat.{ℕ, _-_, _^_, _<_}
 use native.Mathlib.Omega.{arith}
 use lib.Dec.{eqb}
@@ -53,13 +53,5 @@ module _ (test : ℕ → Bool) where
         behind j = ap (λ (a : Bool). a && test j) (has-behindFirst rest j small) ∙ by (eqb (trailingZeros 64 rest) j) refl
           where
             by : (same : Bool) → eqb (trailingZeros 64 rest) j ≡ same → (has rest j && not same) && test j ≡ has rest j && test j
-            by true f = rw (sym (ap test (eqb-true (trailingZeros 64 rest) j f)) ∙ e) (neither (has rest j))
-              where
-                neither : (a : Bool) → (a && false) && false ≡ a && false
-                neither true = refl
-                neither false = refl
-            by false f = ap (λ (a : Bool). a && test j) (same-and (has rest j))
-              where
-                same-and : (a : Bool) → a && true ≡ a
-                same-and true = refl
-                same-and false = refl
+            by true f = rw (sym (ap test (eqb-true (trailingZeros 64 rest) j f)) ∙ e) (ap (λ (a : Bool). a && false) (and-false (has rest j)) ∙ sym (and-false (has rest j)))
+            by false f = ap (λ (a : Bool). a && test j) (and-true (has rest j))

@@ -1,7 +1,7 @@
 -- Readiness as words: a unit's needs are all scheduled where each of its statements is ready.
 use mathlib.Core.Path.{_≡_, refl, sym, ap, _∙_}
 use mathlib.Core.Logic.{_⊎_, inl, inr}
-use mathlib.Core.Bool.{Bool, true, false, _&&_}
+use mathlib.Core.Bool.{Bool, true, false, _&&_, and-true, and-assoc}
 use mathlib.Core.List.{List, [], _∷_}
 use Prim.Native.Nat.{ℕ}
 use lib.Bits.{bitAnd, and-zero-l}
@@ -54,20 +54,12 @@ module _ (ss : List Statement) (direct reached : List ℕ) (rowed : Rowed ss dir
 
   needs-within : (set : ℕ) (unit : List ℕ) (needed : ℕ)
       → wordReady (each (λ s so-far. join so-far (getD direct s 0)) unit needed) set ≡ wordReady needed set && isReady ss set unit
-  needs-within set [] needed = and-true (wordReady needed set)
-    where
-      and-true : (a : Bool) → a ≡ a && true
-      and-true true = refl
-      and-true false = refl
+  needs-within set [] needed = sym (and-true (wordReady needed set))
   needs-within set (s ∷ rest) needed =
       needs-within set rest (join needed (getD direct s 0))
       ∙ ap (λ (a : Bool). a && isReady ss set rest) (join-within needed (getD direct s 0) set)
       ∙ and-assoc (wordReady needed set) (wordReady (getD direct s 0) set) (isReady ss set rest)
       ∙ ap (λ (a : Bool). wordReady needed set && (a && isReady ss set rest)) (statement-within set s)
-    where
-      and-assoc : (a b c : Bool) → (a && b) && c ≡ a && (b && c)
-      and-assoc true b c = refl
-      and-assoc false b c = refl
 
   -- "It is ready when all that its statements depend on is scheduled."
   pub unit-within : (set : ℕ) (unit : List ℕ) → wordReady (neededBy direct unit) set ≡ isReady ss set unit
