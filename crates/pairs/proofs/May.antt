@@ -1,12 +1,12 @@
 -- The test on the tables by which a pair is admitted is that of "Pairs".
 use mathlib.Core.Path.{_≡_, refl, ap, ap₂, _∙_}
-use mathlib.Core.Bool.{Bool, true, false, _&&_, not, false≢true}
+use mathlib.Core.Bool.{Bool, true, false, _&&_, not}
 use mathlib.Core.List.{List}
 use Prim.Native.Nat.{ℕ, _+_, _*_, _≤_, _<_}
 use native.Mathlib.Omega.{arith}
-use lib.Dec.{eqb, ltb}
+use lib.Dec.{eqb}
 use lib.ListN.{length, getD}
-use borrow.Author.Tests.{lt-ltb, eqb-true, eqb-false, eq-eqb}
+use borrow.Author.Tests.{eqb-true, eqb-false, eq-eqb}
 use Rattle.basics.specs.Lists.{any}
 use Rattle.basics.specs.Sets.{has}
 use Rattle.basics.proofs.Tests.{and-left, and-right, and-both, same-test}
@@ -14,14 +14,14 @@ use Rattle.meaning.specs.declared.Place.{Place}
 use Rattle.meaning.specs.declared.Place.the-variants.{Variable, Cell}
 use Rattle.meaning.specs.declared.Statement.{Statement}
 use Rattle.meaning.specs.Block.{statement, cellPlace}
-use Rattle.meaning.specs.Dependence.{reaches, independent}
+use Rattle.meaning.specs.Dependence.{independent}
 use Rattle.meaning.specs.Pairs.{Pair, pair, isLeft, isRight, partner, chain, alike, mayBeAdmitted}
 use Rattle.theorems.specs.Units.{Every}
 use Rattle.theorems.proofs.Occurs.{every-weaker}
 use Rattle.theorems.proofs.Pairs.{Admitted}
 use Rattle.facts.specs.Facts.{factAt}
 use Rattle.facts.specs.Tied.{Stated}
-use Rattle.reach.specs.Rows.{noPath}
+use Rattle.reach.proofs.Reaching.{no-path}
 use Rattle.reach.specs.Tied.{numberOf, Rowed}
 use Rattle.pairs.specs.Admission.{leadsTo, mayJoin, mayPair, tablesOf}
 use Rattle.pairs.proofs.Tables.{tables-size, rights-tied, partners-tied, rights-below}
@@ -48,12 +48,6 @@ sorts-alike ss facts stated s t hs ht =
     (kind-small (statement ss s .destination)) (kind-small (statement ss t .destination))
 
 -- the conditions put together
-all-five : (a b x y z : Bool) → a ≡ true → b ≡ true → x && (y && z) ≡ a && b && x && y && z
-all-five true true true y z p q = refl
-all-five true true false y z p q = refl
-all-five true false x y z p q = absurd (false≢true q)
-all-five false b x y z p q = absurd (false≢true p)
-
 regroup : (a b c d e : Bool) → a && (b && (c && (d && e))) ≡ a && b && c && d && e
 regroup true true true d e = refl
 regroup true true false d e = refl
@@ -69,13 +63,6 @@ no-such true b c = refl
 no-such false b c = refl
 
 module _ (ss : List Statement) (facts direct reached : List ℕ) (few : length ss ≤ 64) (stated : Stated ss facts) (rowed : Rowed ss direct reached) where
-  -- "independent"
-  pub no-path : (s t : ℕ) → s < length ss → t < length ss → noPath reached s t ≡ independent ss s t
-  unfolding independent
-  no-path s t hs ht =
-      ap₂ (λ (row other : ℕ). not (eqb s t) && (not (has row t) && not (has other s))) (rowed .reaching s hs) (rowed .reaching t ht)
-      ∙ all-five (ltb s (length ss)) (ltb t (length ss)) (not (eqb s t)) (not (reaches ss s t)) (not (reaches ss t s)) (lt-ltb s (length ss) hs) (lt-ltb t (length ss) ht)
-
   pub may-pair : (pairs : List Pair) → Admitted ss pairs → (s t : ℕ) → s < length ss → t < length ss
       → mayPair facts reached (tablesOf pairs) s t ≡ mayBeAdmitted ss pairs (pair s t)
   unfolding mayBeAdmitted
@@ -97,7 +84,7 @@ module _ (ss : List Statement) (facts direct reached : List ℕ) (few : length s
       by false e =
           each-same
           (sorts-alike ss facts stated s t hs ht)
-          (no-path s t hs ht)
+          (no-path ss direct reached rowed s t hs ht)
           (left-free pairs (tablesOf pairs .next) partners small s)
           (rights-tied pairs t)
           (ap (λ (n : ℕ). leadsTo n (tablesOf pairs .next) t s) (tables-size pairs)
