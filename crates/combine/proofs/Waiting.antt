@@ -1,7 +1,7 @@
 -- Units added to the tables one after the other, where no two have a statement in common: the tables say of each what `Waits` wants.
 use mathlib.Core.Path.{_≡_, refl, sym, ap, ap₂, _∙_}
 use mathlib.Core.Logic.{inl, inr}
-use mathlib.Core.Bool.{Bool, true, false, _||_}
+use mathlib.Core.Bool.{Bool, _||_, or-false, or-assoc}
 use mathlib.Core.List.{List, [], _∷_}
 use Prim.Native.Nat.{ℕ, _≤_, _<_}
 use native.Mathlib.Omega.{arith}
@@ -42,20 +42,12 @@ stores-other value (u ∷ us) table k differ =
     ∙ getD-set-other table (lowest u) k (value u) 0 (λ e. differ u (inl refl) (sym e))
 
 marks-has : (units : List (List ℕ)) (waiting s : ℕ) → has (marks units waiting) s ≡ has waiting s || any (λ unit. eqb (lowest unit) s) units
-marks-has [] waiting s = or-nothing (has waiting s)
-  where
-    or-nothing : (a : Bool) → a ≡ a || false
-    or-nothing true = refl
-    or-nothing false = refl
+marks-has [] waiting s = sym (or-false (has waiting s))
 marks-has (u ∷ us) waiting s =
     marks-has us (join waiting (only (lowest u))) s
     ∙ ap (λ (test : Bool). test || any (λ unit. eqb (lowest unit) s) us)
     (has-join waiting (only (lowest u)) s ∙ ap (λ (test : Bool). has waiting s || test) (has-only (lowest u) s))
-    ∙ regroup (has waiting s) (eqb (lowest u) s) (any (λ unit. eqb (lowest unit) s) us)
-  where
-    regroup : (a b c : Bool) → (a || b) || c ≡ a || (b || c)
-    regroup true b c = refl
-    regroup false b c = refl
+    ∙ or-assoc (has waiting s) (eqb (lowest u) s) (any (λ unit. eqb (lowest unit) s) us)
 
 module _ (ss : List Statement) (small : length ss ≤ 64) where
   fits-filled : (unit : List ℕ) → Fits ss unit → 0 < length unit
