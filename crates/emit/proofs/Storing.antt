@@ -1,5 +1,5 @@
 -- "Then the destination: W if neighbours, D per lane for other cells, nothing for variables."
-use mathlib.Core.Path.{_≡_, refl, sym, ap, subst, _∙_}
+use mathlib.Core.Path.{_≡_, sym, ap, subst}
 use mathlib.Core.Bool.{Bool, true, false}
 use mathlib.Core.Option.{Option, none, some}
 use mathlib.Core.List.{List, [], _∷_, _++_, append-nil}
@@ -16,7 +16,7 @@ use Rattle.meaning.specs.List.{Instruction, W, D}
 use Rattle.meaning.specs.Emission.{Emitted, emit, areInRow, rowStart, storeLane, storeEach, storeTuple as storeAll}
 use Rattle.theorems.specs.Steps.{stores}
 use Rattle.theorems.proofs.Landing.{tuple-stored}
-use Rattle.codes.specs.Codes.{placeCode, operandCode}
+use Rattle.codes.specs.Codes.{operandCode}
 use Rattle.codes.specs.Fitting.{operandFits}
 use Rattle.codes.proofs.Places.{cell-code}
 use Rattle.codes.proofs.Operands.{constant-not-cell}

@@ -1,7 +1,7 @@
 -- "Emission" over the tables: the instructions of each unit, and the extraction at the end.
 use Prim.Native.Nat.{ℕ, _+_, _/_, _%_, _^_}
 use mathlib.Core.List.{List}
-use lib.Dec.{eqb, ltb}
+use lib.Dec.{ltb}
 use lib.ListN.{getD, replicate}
 use Rattle.basics.specs.Choice.{pick}
 use Rattle.basics.specs.Counting.{count}
@@ -12,7 +12,7 @@ use Rattle.units.specs.declared.Unit.{Unit as Lanes}
 use Rattle.units.specs.Lanes.{lane, wordLanes, memberLanes}
 use Rattle.registers.specs.declared.Tuple.{Tuple}
 use Rattle.registers.specs.Table.{tupleLane, holdTuple}
-use Rattle.encode.specs.Records.{Listing, listing, writeS, writeCells, writeO, nothingWritten, writeHeader}
+use Rattle.encode.specs.Records.{Listing, writeS, writeCells, writeO, nothingWritten, headed}
 use Rattle.lanes.specs.Homes.{InLanes, inLanes, setHome, landTuple, extractCode, extractLive}
 use Rattle.fetch.specs.Fetching.{State, Got, tupleInRow, withList, fetchState, fetchRightState, tupleIn}
 
@@ -87,9 +87,6 @@ emitUnitsState facts numbers writers order size e =
     count size 0 (λ i. emitUnitState facts numbers writers (wordLanes (getD order i 0))) e
 
 -- with "At the end, X for each live-out variable still in a lane", and the header in front
-abbrev pub headed : Listing → Listing
-headed l = listing (writeHeader l) (l .written)
-
 unfoldable pub emissionIn : List ℕ → List ℕ → List ℕ → List ℕ → ℕ → ℕ → List ℕ → Listing
 emissionIn facts numbers writers order size live out =
     headed

@@ -4,12 +4,20 @@ use Prim.Native.Nat.{ℕ, _+_, _/_, _%_, _≤_, _<_}
 use mathlib.Core.List.{List, [], _∷_, _++_, append-assoc}
 use native.Mathlib.Omega.{arith}
 use lib.ListN.{length, take, drop, length-append}
-use lib.Seq.{sets, sets-eq, length-take-le, drop-at, take-at}
+use lib.Seq.{sets, length-sets, sets-eq, length-take-le, drop-at, take-at}
 use Rattle.basics.proofs.Stores.{sets-front}
 use Rattle.meaning.specs.declared.Statement.{Statement}
-use Rattle.meaning.specs.List.{Instruction, recordsBytes, listBytes}
-use Rattle.encode.specs.Records.{Listing, writeHeader}
+use Rattle.meaning.specs.List.{Instruction, recordsBytes, listPrice, listBytes}
+use Rattle.encode.specs.Records.{Listing, writeHeader, headed}
 use Rattle.encode.proofs.Encoding.{put-all, Listed}
+
+-- The table begins with the bytes of the list, and its size, count and price are the list's.
+pub record Made (ss : List Statement) (list : List Instruction) (l : Listing) : Type 0 where
+  pub size : l .written .size ≡ length (listBytes list)
+  pub room : l .written .size ≤ length (l .out)
+  pub bytes : take (l .written .size) (l .out) ≡ listBytes list
+  pub count : l .written .count ≡ length list
+  pub price : l .written .price ≡ listPrice ss list
 
 module _ (base : List ℕ) (ss : List Statement) (list : List Instruction) (l : Listing) (h : Listed base ss list l)
     (room : 4 + length (recordsBytes list) ≤ length base) (few : length list < 256) where
@@ -47,3 +55,12 @@ module _ (base : List ℕ) (ss : List Statement) (list : List Instruction) (l : 
       let regrouped : writeHeader l ≡ (front ++ recordsBytes list) ++ behind = header-stands ∙ sym (append-assoc front (recordsBytes list) behind) in
       ap (take (l .written .size)) (regrouped ∙ ap (λ (bytes : List ℕ). bytes ++ behind) front-bytes)
       ∙ take-at (listBytes list) behind (l .written .size) (sym listed-size)
+
+  header-length : length (writeHeader l) ≡ length base
+  header-length =
+      ap length (put-all (l .out) 0 front) ∙ length-sets (l .out) 0 front ∙ ap length (h .out) ∙ length-sets base 4 (recordsBytes list)
+
+  -- Records with the header in front are the list.
+  pub headed-made : Made ss list (headed l)
+  headed-made =
+      record { size = listed-size; room = omega (arith, h .size, header-length); bytes = listed-bytes; count = h .count; price = h .price }

@@ -65,3 +65,6 @@ nothingWritten = record { size = 4; count = 0; price = 0 }
 -- "version 1, total length (2 bytes), instruction count"
 abbrev pub writeHeader : Listing → List ℕ
 writeHeader l = putAll (l .out) 0 (1 ∷ l .written .size / 256 % 256 ∷ l .written .size % 256 ∷ l .written .count % 256 ∷ [])
+
+abbrev pub headed : Listing → Listing
+headed l = listing (writeHeader l) (l .written)

@@ -1,12 +1,11 @@
 -- The records of C and G, stored piece by piece, are those of the instructions.
 use mathlib.Core.Path.{_≡_, refl, sym, ap, ap₂, _∙_}
-use mathlib.Core.Bool.{Bool, true, false, not, false≢true}
+use mathlib.Core.Bool.{true, false, false≢true}
 use mathlib.Core.List.{List, [], _∷_, _++_, append-nil, append-assoc}
 use Prim.Native.Nat.{ℕ, _+_, _/_, _%_, _^_}
 use native.Mathlib.Omega.{arith}
 use lib.ListN.{length, length-append}
 use lib.Seq.{sets}
-use Rattle.basics.specs.Choice.{pick}
 use Rattle.basics.proofs.Stores.{sets-append}
 use Rattle.meaning.specs.declared.Place.the-variants.{Variable, Cell}
 use Rattle.meaning.specs.declared.Operand.{Operand}
@@ -14,7 +13,7 @@ use Rattle.meaning.specs.declared.Operand.the-variants.{Nothing, Constant, Held
 use Rattle.meaning.specs.declared.Statement.{Statement}
 use Rattle.meaning.specs.Format.{bytesOf, operandBytes, isOperand}
 use Rattle.meaning.specs.List.{C, G, instructionBytes, instructionPrice}
-use Rattle.codes.specs.Codes.{operandCode, placeCode, isCellCode, isConstantCode}
+use Rattle.codes.specs.Codes.{operandCode}
 use Rattle.codes.specs.Fitting.{operandFits}
 use Rattle.codes.proofs.Places.{cell-code, place-not-constant}
 use Rattle.codes.proofs.Operands.{constant-is-constant, cells-of-operand}

@@ -2,29 +2,28 @@
 use mathlib.Core.Path.{_≡_, refl, sym, ap, subst, _∙_}
 use mathlib.Core.Bool.{Bool, true, false}
 use mathlib.Core.Option.{Option, none, some}
-use mathlib.Core.List.{List, [], _∷_, _++_, map}
-use Prim.Native.Nat.{ℕ, _+_, _≤_, _<_}
+use mathlib.Core.List.{List}
+use Prim.Native.Nat.{ℕ, _<_}
 use native.Mathlib.Omega.{arith}
 use lib.ListN.{length, length-map}
 use borrow.Author.Tests.{lt-ltb}
-use Rattle.basics.specs.Lists.{all, each}
+use Rattle.basics.specs.Lists.{each}
 use Rattle.meaning.specs.declared.Operand.{Operand}
 use Rattle.meaning.specs.declared.Operand.the-variants.{Constant}
 use Rattle.meaning.specs.declared.Statement.{Statement}
 use Rattle.meaning.specs.Block.{statement}
 use Rattle.meaning.specs.List.{L, C, G, lanesFit}
-use Rattle.meaning.specs.Emission.{Register, Emitted, emit, extractOperand, holder, areInRow, rowStart, constantsOf, hold, next, loadInstruction, beforeLoad, load, fetchTuple, fetchedIn}
-use Rattle.theorems.specs.Steps.{holding}
+use Rattle.meaning.specs.Emission.{Register, Emitted, emit, extractOperand, holder, areInRow, rowStart, constantsOf, next, loadInstruction, beforeLoad, load, fetchTuple, fetchedIn}
 use Rattle.theorems.proofs.Steps.{load-registers}
 use Rattle.codes.specs.Codes.{placeCode}
-use Rattle.codes.specs.Fitting.{placeFits, operandFits}
+use Rattle.codes.specs.Fitting.{placeFits}
 use Rattle.facts.specs.Tied.{Names}
-use Rattle.encode.proofs.Encoding.{Short, shorter, record-listed}
+use Rattle.encode.proofs.Encoding.{shorter, record-listed}
 use Rattle.registers.specs.Table.{holderFrom, holdTuple}
 use Rattle.registers.proofs.Laned.{laned, tupleOf}
 use Rattle.registers.proofs.Table.{Registers, Found, holder-found, registers-more}
 use Rattle.lanes.specs.Homes.{InLanes, extractTuple}
-use Rattle.lanes.proofs.Extraction.{InStep, Stepped}
+use Rattle.lanes.proofs.Extraction.{Stepped}
 use Rattle.fetch.specs.Fetching.{State, Got, got, tupleInRow, tupleConstant, loadTuple, loadState, holderIn, fetchState}
 use Rattle.fetch.proofs.Tuples.{Fetchable, row-codes, RowAs, row-as, constant-codes, ConstantsAs, constants-as, row-record, constants-record, operands-record, tuple-stepped}
 use Rattle.fetch.proofs.Standing.{Small, Standing, Stands, load-next, before-load}

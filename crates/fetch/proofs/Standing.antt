@@ -1,8 +1,8 @@
 -- The tables stand for what is emitted: bytes, homes, registers and their number, as long as list and registers are within bounds that no
 -- list that is made comes near. What is emitted later is longer, so the bounds hold before if they hold after.
-use mathlib.Core.Path.{_≡_, refl, ap, _∙_}
+use mathlib.Core.Path.{_≡_, ap, _∙_}
 use mathlib.Core.Option.{Option, none, some}
-use mathlib.Core.List.{List, [], _∷_, _++_}
+use mathlib.Core.List.{List, [], _∷_}
 use Prim.Native.Nat.{ℕ, _+_, _≤_}
 use native.Mathlib.Omega.{arith}
 use lib.ListN.{length, length-append}

@@ -22,7 +22,7 @@ use Rattle.codes.proofs.Operands.{operands-row, constant-is-constant}
 use Rattle.codes.proofs.Back.{array-back, index-back}
 use Rattle.encode.specs.Records.{Listing, recorded, writeCells}
 use Rattle.encode_lanes.specs.Lanes.{writeC, writeG}
-use Rattle.encode_lanes.proofs.Gathering.{Gathered, two-constants, four-constants, two-operands, four-operands}
+use Rattle.encode_lanes.proofs.Gathering.{two-constants, four-constants, two-operands, four-operands}
 use Rattle.registers.proofs.Laned.{Laned, two, four, laneCode, tupleOf}
 use Rattle.lanes.specs.Homes.{InLanes, extractCode, extractTuple}
 use Rattle.lanes.proofs.Extraction.{Stepped, operand-stepped}

@@ -6,25 +6,23 @@ use mathlib.Core.Option.{Option, none, some}
 use mathlib.Core.List.{List, [], _∷_, _++_, map, append-nil}
 use Prim.Native.Nat.{ℕ, zero, suc, _+_, _*_, _/_, _≤_, _<_}
 use native.Mathlib.Omega.{arith}
-use lib.Dec.{eqb, ltb}
-use lib.ListN.{length, getD, set, replicate, length-set, length-replicate, List·getD-eq-default}
+use lib.Dec.{eqb}
+use lib.ListN.{length, getD, set, replicate, length-set, length-replicate}
 use lib.Seq.{getD-set-same, getD-set-other, set-out}
 use borrow.Author.Tests.{eqb-true, eqb-false, eq-eqb, ne-eqb, lt-ltb}
-use Rattle.basics.specs.Choice.{pick}
 use Rattle.basics.specs.Lists.{all, keep, first}
 use Rattle.basics.proofs.Finding.{keep-yes, keep-no, first-yes, first-no}
 use Rattle.basics.proofs.Tests.{passes-or-fails}
 use Rattle.basics.proofs.Parts.{all-first, all-others}
 use Rattle.meaning.specs.declared.Place.{Place}
 use Rattle.meaning.specs.declared.Place.the-variants.{Variable, Cell}
-use Rattle.meaning.specs.declared.Operand.{Operand}
-use Rattle.meaning.specs.declared.Operand.the-variants.{Nothing, Constant, Held}
+use Rattle.meaning.specs.declared.Operand.the-variants.{Constant, Held}
 use Rattle.meaning.specs.Emission.{Home, isHome, notInLane, homesFrom}
 use Rattle.theorems.specs.Steps.{awayFrom}
 use Rattle.codes.specs.Codes.{operandCode, placeCode}
-use Rattle.codes.specs.Fitting.{operandFits, placeFits}
+use Rattle.codes.specs.Fitting.{placeFits}
 use Rattle.codes.proofs.Places.{variable-fits}
-use Rattle.lanes.specs.Homes.{homeAt, setHome}
+use Rattle.lanes.specs.Homes.{setHome}
 
 -- where a variable is, as a number: 0 in memory
 abbrev pub Homed : ℕ → Option Home → Type 0

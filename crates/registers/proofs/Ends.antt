@@ -3,12 +3,12 @@ use mathlib.Core.Path.{_≡_, refl, sym, ap, ap₂, _∙_}
 use mathlib.Core.Logic.{_⊎_, inl, inr}
 use mathlib.Core.Bool.{Bool, true, false, _&&_, _||_, not, true≢false, false≢true}
 use mathlib.Core.List.{List, [], _∷_}
-use Prim.Native.Nat.{ℕ, _≤_, _<_}
+use Prim.Native.Nat.{ℕ, _<_}
 use native.Mathlib.Omega.{arith}
 use lib.Dec.{eqb, ltb}
 use lib.ListN.{length}
 use lib.Bits.{bitAnd}
-use borrow.Author.Tests.{eqb-true, eq-eqb, ne-eqb, lt-ltb, le-ltb}
+use borrow.Author.Tests.{eqb-true, eq-eqb, lt-ltb, le-ltb}
 use Rattle.basics.specs.Choice.{pick}
 use Rattle.basics.specs.Lists.{any, all}
 use Rattle.basics.specs.Sets.{nobody, only, join, has}
@@ -20,7 +20,7 @@ use Rattle.meaning.specs.declared.Operand.the-variants.{Nothing, Constant, Held
 use Rattle.meaning.specs.declared.Statement.{Statement}
 use Rattle.meaning.specs.Block.{statement, names}
 use Rattle.codes.specs.Codes.{placeCode, operandCode}
-use Rattle.codes.specs.Fitting.{placeFits, operandFits, statementFits}
+use Rattle.codes.specs.Fitting.{placeFits, operandFits}
 use Rattle.codes.proofs.Places.{from-two, below-2569}
 use Rattle.codes.proofs.Operands.{name-codes}
 use Rattle.facts.specs.Places.{naming}

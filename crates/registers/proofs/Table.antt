@@ -4,7 +4,7 @@ use mathlib.Core.Logic.{_⊎_, inl, inr}
 use mathlib.Core.Bool.{Bool, true, false, _&&_, _||_, not, true≢false}
 use mathlib.Core.Option.{Option, none, some}
 use mathlib.Core.List.{List, [], _∷_, _++_, map}
-use Prim.Native.Nat.{ℕ, zero, suc, _+_, _*_, _%_, _≤_, _<_}
+use Prim.Native.Nat.{ℕ, suc, _+_, _*_, _%_, _≤_, _<_}
 use native.Mathlib.Nat.{add-zero}
 use native.Mathlib.Omega.{arith}
 use lib.Dec.{eqb}
@@ -15,11 +15,10 @@ use borrow.Author.Tests.{eqb-true}
 use Rattle.basics.specs.Lists.{any, all, each}
 use Rattle.basics.specs.Sets.{only, join, has}
 use Rattle.basics.proofs.Tests.{or-either, below-or-not}
-use Rattle.basics.proofs.Parts.{all-at}
 use Rattle.basics.proofs.Sets.{has-join}
 use Rattle.meaning.specs.declared.Operand.{Operand}
 use Rattle.meaning.specs.declared.Statement.{Statement}
-use Rattle.meaning.specs.Block.{statement, blank, names}
+use Rattle.meaning.specs.Block.{statement, names}
 use Rattle.meaning.specs.List.{lanesFit}
 use Rattle.meaning.specs.Schedule.{withUnit}
 use Rattle.meaning.specs.Emission.{Register, ended, sameTuple, holder}

@@ -38,7 +38,7 @@ over-ones : (n i : ℕ) → over (λ s. 1) n i ≡ n
 over-ones zero i = refl
 over-ones (suc n) i = omega (arith, over-ones n (suc i))
 
-units-size : (ss : List Statement) (units : List (List ℕ)) → Units ss units → length (flat units) ≡ length ss
+pub units-size : (ss : List Statement) (units : List (List ℕ)) → Units ss units → length (flat units) ≡ length ss
 units-size ss units u =
     sym (ones (flat units)) ∙ any-order (λ s. 1) (length ss) (flat units) (flat-below ss units (u .fit)) (u .once) ∙ over-ones (length ss) 0
 
