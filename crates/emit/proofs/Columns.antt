@@ -38,6 +38,10 @@ pub record Known (ss : List Statement) (facts : List ℕ) : Type 0 where
   pub formed : all wellFormed ss ≡ true
   pub few : length ss ≤ 64
 
+pub one-place : (p : Place) → cellPlace p ≤ 1
+one-place (Variable v) = omega arith
+one-place (Cell a i) = omega arith
+
 module _ (ss : List Statement) (facts : List ℕ) (known : Known ss facts) where
   fits-at : (s : ℕ) → s < length ss → statementFits (statement ss s) ≡ true
   fits-at s below = all-at statementFits ss s blank (known .fit) below
@@ -137,11 +141,7 @@ module _ (ss : List Statement) (facts : List ℕ) (known : Known ss facts) where
   -- "The statements of a pack have one operation": the sort has it above the kind of destination
   sort-operation : (s : ℕ) → s < length ss → factAt facts 192 s / 2 % 256 ≡ statement ss s .operation
   sort-operation s below =
-      omega (arith, known .stated .sorts s below, operation-small s below, one-at-most (statement ss s .destination))
-    where
-      one-at-most : (p : Place) → cellPlace p ≤ 1
-      one-at-most (Variable v) = omega arith
-      one-at-most (Cell a i) = omega arith
+      omega (arith, known .stated .sorts s below, operation-small s below, one-place (statement ss s .destination))
 
   pub sort-column : (unit : List ℕ) → Laned unit → Every (λ s. s < length ss) unit → operationIn facts (lanesOf unit) ≡ operationOf ss unit
   sort-column unit (two a b) range = sort-operation a (range .0)

@@ -8,20 +8,15 @@ use lib.ListN.{length}
 use Rattle.basics.specs.Lists.{all, sum}
 use Rattle.basics.proofs.Tests.{and-left}
 use Rattle.basics.proofs.Parts.{all-first, all-others}
-use Rattle.meaning.specs.declared.Place.{Place}
-use Rattle.meaning.specs.declared.Place.the-variants.{Variable, Cell}
 use Rattle.meaning.specs.declared.Operand.{Operand}
 use Rattle.meaning.specs.declared.Operand.the-variants.{Nothing, Constant, Held}
 use Rattle.meaning.specs.declared.Statement.{Statement}
-use Rattle.meaning.specs.Block.{statement, cellPlace, cellOperand}
+use Rattle.meaning.specs.Block.{statement, cellOperand}
 use Rattle.meaning.specs.Format.{isOperand}
 use Rattle.meaning.specs.List.{Instruction, S, L, C, G, O, W, D, X, instructionPrice, listPrice, lanesFit}
 use Rattle.theorems.proofs.Instructions.{instructionFits}
 use Rattle.registers.proofs.Laned.{Laned, two, four, laned}
-
-one-place : (p : Place) → cellPlace p ≤ 1
-one-place (Variable v) = omega arith
-one-place (Cell a i) = omega arith
+use Rattle.emit.proofs.Columns.{one-place}
 
 one-operand : (o : Operand) → cellOperand o ≤ 1
 one-operand Nothing = omega arith

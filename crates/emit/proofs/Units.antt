@@ -7,12 +7,10 @@ use native.Mathlib.Nat.{add-zero}
 use native.Mathlib.Omega.{arith}
 use lib.Dec.{eqb, ltb}
 use lib.ListN.{length, getD}
-use borrow.Author.Tests.{eqb-true, eq-eqb}
 use Rattle.basics.specs.Choice.{pick}
 use Rattle.basics.specs.Counting.{count}
 use Rattle.basics.specs.Lists.{flat, each}
 use Rattle.basics.specs.Sets.{only, join, has}
-use Rattle.basics.proofs.Tests.{same-test}
 use Rattle.basics.proofs.Sets.{has-join, has-only}
 use Rattle.meaning.specs.declared.Statement.{Statement}
 use Rattle.meaning.specs.Schedule.{withUnit}
@@ -21,6 +19,7 @@ use Rattle.theorems.specs.Units.{Every, occurs, Fits}
 use Rattle.theorems.proofs.Occurs.{occurs-own}
 use Rattle.theorems.proofs.Steps.{fits-pack}
 use Rattle.codes.specs.Codes.{placeCode}
+use Rattle.codes.proofs.Equal.{together}
 use Rattle.facts.specs.Tied.{Names}
 use Rattle.units.specs.declared.Unit.{Unit as Lanes}
 use Rattle.units.specs.Words.{unitWord}
@@ -48,11 +47,8 @@ once-first ss done s order below h = by (has done s) refl (h s below)
 
 once-then : (ss : List Statement) (done s : ℕ) (order : List ℕ) → Once ss done (s ∷ order) → Once ss (join done (only s)) order
 once-then ss done s order h t below =
-    rw (has-join done (only s) t, has-only s t, swap s t) (by (has done t) (eqb t s) (h t below))
+    rw (has-join done (only s) t, has-only s t, together s t t s sym sym) (by (has done t) (eqb t s) (h t below))
   where
-    swap : (m n : ℕ) → eqb m n ≡ eqb n m
-    swap m n = same-test (eqb m n) (eqb n m) (λ e. eq-eqb n m (sym (eqb-true m n e))) (λ e. eq-eqb m n (sym (eqb-true n m e)))
-
     by : (a b : Bool) → pick a 1 0 + (pick b 1 0 + occurs t order) ≤ 1 → pick (a || b) 1 0 + occurs t order ≤ 1
     by true true k = omega arith
     by true false k = omega arith

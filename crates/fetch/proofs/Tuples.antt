@@ -1,6 +1,6 @@
 -- What is asked of a tuple's codes is what is asked of the tuple: neighbours of one array, constants; and the records of L, C and G.
 use mathlib.Core.Path.{_≡_, refl, sym, ap, ap₂, _∙_}
-use mathlib.Core.Bool.{Bool, true, false, _&&_}
+use mathlib.Core.Bool.{Bool, true, false, _&&_, and-true}
 use mathlib.Core.Option.{Option, none, some}
 use mathlib.Core.List.{List, [], _∷_, map}
 use Prim.Native.Nat.{ℕ}
@@ -33,10 +33,6 @@ pub record Fetchable (os : List Operand) : Type 0 where
   pub lanes : lanesFit (length os) ≡ true
   pub fit : all operandFits os ≡ true
   pub there : all isOperand os ≡ true
-
-and-true : (x : Bool) → x && true ≡ x
-and-true true = refl
-and-true false = refl
 
 -- "ascending neighbours of one array"
 pub row-codes : (os : List Operand) → Laned os → all operandFits os ≡ true → tupleInRow (tupleOf os) ≡ areInRow os

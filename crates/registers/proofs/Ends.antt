@@ -1,7 +1,7 @@
 -- What ends a register: the statements still to come that write one of its places. It is current until one of them is done.
 use mathlib.Core.Path.{_≡_, refl, sym, ap, ap₂, _∙_}
 use mathlib.Core.Logic.{_⊎_, inl, inr}
-use mathlib.Core.Bool.{Bool, true, false, _&&_, _||_, not, true≢false, false≢true}
+use mathlib.Core.Bool.{Bool, true, false, _&&_, _||_, not, true≢false, false≢true, and-true, and-false, or-assoc, or-false}
 use mathlib.Core.List.{List, [], _∷_}
 use Prim.Native.Nat.{ℕ, _<_}
 use native.Mathlib.Omega.{arith}
@@ -21,6 +21,7 @@ use Rattle.meaning.specs.declared.Statement.{Statement}
 use Rattle.meaning.specs.Block.{statement, names}
 use Rattle.codes.specs.Codes.{placeCode, operandCode}
 use Rattle.codes.specs.Fitting.{placeFits, operandFits}
+use Rattle.codes.proofs.Equal.{together}
 use Rattle.codes.proofs.Places.{from-two, below-2569}
 use Rattle.codes.proofs.Operands.{name-codes}
 use Rattle.facts.specs.Places.{naming}
@@ -105,29 +106,18 @@ place-code : (p : Place) → placeFits p ≡ true → isPlaceCode (placeCode p) 
 place-code p fits =
     and-both (ltb 0 (placeCode p)) _ (lt-ltb 0 (placeCode p) (omega (arith, from-two p))) (lt-ltb (placeCode p) 2570 (omega (arith, below-2569 p fits)))
 
-swap : (m n : ℕ) → eqb m n ≡ eqb n m
-swap m n = same-test (eqb m n) (eqb n m) (λ e. eq-eqb n m (sym (eqb-true m n e))) (λ e. eq-eqb m n (sym (eqb-true n m e)))
-
-drop-right : (x : Bool) → x && false ≡ false
-drop-right true = refl
-drop-right false = refl
-
-drop-true : (x : Bool) → x && true ≡ x
-drop-true true = refl
-drop-true false = refl
-
 lane-writes : (o : Operand) (p : Place) → operandFits o ≡ true → placeFits p ≡ true
     → eqb (placeCode p) (operandCode o) && isPlaceCode (operandCode o) ≡ names o p
-lane-writes Nothing p fits at-place = drop-right (eqb (placeCode p) 0)
+lane-writes Nothing p fits at-place = and-false (eqb (placeCode p) 0)
 lane-writes (Constant c) p fits at-place =
     let beyond : isPlaceCode (operandCode (Constant c)) ≡ false =
     ap (λ (x : Bool). ltb 0 (operandCode (Constant c)) && x) (le-ltb (operandCode (Constant c)) 2570 (omega arith))
-    ∙ drop-right (ltb 0 (operandCode (Constant c))) in
-    ap (λ (x : Bool). eqb (placeCode p) (operandCode (Constant c)) && x) beyond ∙ drop-right (eqb (placeCode p) (operandCode (Constant c)))
+    ∙ and-false (ltb 0 (operandCode (Constant c))) in
+    ap (λ (x : Bool). eqb (placeCode p) (operandCode (Constant c)) && x) beyond ∙ and-false (eqb (placeCode p) (operandCode (Constant c)))
 lane-writes (Held q) p fits at-place =
     ap (λ (x : Bool). eqb (placeCode p) (placeCode q) && x) (place-code q fits)
-    ∙ drop-true (eqb (placeCode p) (placeCode q))
-    ∙ swap (placeCode p) (placeCode q)
+    ∙ and-true (eqb (placeCode p) (placeCode q))
+    ∙ together (placeCode p) (placeCode q) (placeCode q) (placeCode p) sym sym
     ∙ sym (name-codes (Held q) p fits at-place)
 
 module _ (ss : List Statement) (numbers writers : List ℕ) (named : Names ss (λ s. placeCode (s .destination)) numbers writers) where
@@ -145,7 +135,7 @@ module _ (ss : List Statement) (numbers writers : List ℕ) (named : Names ss (�
   ends-named os done s shape fit below at-place pending =
       has-without (writersOf numbers writers (tupleOf os)) done s
       ∙ ap (λ (x : Bool). has (writersOf numbers writers (tupleOf os)) s && not x) pending
-      ∙ drop-true (has (writersOf numbers writers (tupleOf os)) s)
+      ∙ and-true (has (writersOf numbers writers (tupleOf os)) s)
       ∙ writers-named os shape fit
     where
       p : Place
@@ -162,23 +152,14 @@ module _ (ss : List Statement) (numbers writers : List ℕ) (named : Names ss (�
           (has-join (naming numbers writers (operandCode c)) (naming numbers writers (operandCode d)) s
           ∙ ap₂ (λ (x y : Bool). x || y) (lane-named c s below fc at-place) (lane-named d s below fd at-place))
 
-      in-two : (x y : Bool) → (x || y) || false ≡ x || (y || false)
-      in-two true y = refl
-      in-two false true = refl
-      in-two false false = refl
-
       in-four : (x y z w : Bool) → (x || y) || (z || w) ≡ x || (y || (z || (w || false)))
-      in-four true y z w = refl
-      in-four false true z w = refl
-      in-four false false true w = refl
-      in-four false false false true = refl
-      in-four false false false false = refl
+      in-four x y z w = or-assoc x y (z || w) ∙ ap (λ (t : Bool). x || (y || (z || t))) (sym (or-false w))
 
       writers-named : (qs : List Operand) → Laned qs → all operandFits qs ≡ true
           → has (writersOf numbers writers (tupleOf qs)) s ≡ any (λ o. names o (statement ss s .destination)) qs
       writers-named qs (two a b) f =
           joined a b Nothing Nothing (and-left (operandFits a) _ f) (and-left (operandFits b) _ (and-right (operandFits a) _ f)) refl refl
-          ∙ in-two (names a p) (names b p)
+          ∙ or-assoc (names a p) (names b p) false
       writers-named qs (four a b c d) f =
           let f1 = and-right (operandFits a) _ f in
           let f2 = and-right (operandFits b) _ f1 in

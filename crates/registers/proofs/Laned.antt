@@ -1,7 +1,7 @@
 -- Tuples of two or four operands and their codes: what is the same tuple, in a row, or written, is seen from the codes.
 use mathlib.Core.Path.{_≡_, refl, sym, ap, ap₂, _∙_}
 use mathlib.Core.Logic.{_⊎_, inl, inr}
-use mathlib.Core.Bool.{Bool, true, false, _&&_, false≢true}
+use mathlib.Core.Bool.{Bool, true, false, _&&_, false≢true, and-true}
 use mathlib.Core.List.{List, [], _∷_}
 use Prim.Native.Nat.{ℕ, suc}
 use native.Mathlib.Omega.{arith}
@@ -81,8 +81,4 @@ same-codes-tuple os qs (four a b c d) (four e f g h) fit fits =
     (ap₂ (λ (x y : Bool). x && y) (operand-codes b f (and-left (operandFits b) _ fit1) (and-left (operandFits f) _ fits1))
     (ap₂ (λ (x y : Bool). x && y) (operand-codes c g (and-left (operandFits c) _ fit2) (and-left (operandFits g) _ fits2))
     (ap (λ (x : Bool). x && true) (operand-codes d h (and-left (operandFits d) _ fit3) (and-left (operandFits h) _ fits3))
-    ∙ last (eqb (operandCode d) (operandCode h))))))
-  where
-    last : (x : Bool) → x && true ≡ x
-    last true = refl
-    last false = refl
+    ∙ and-true (eqb (operandCode d) (operandCode h))))))
