@@ -16,18 +16,16 @@ use Rattle.theorems.specs.Units.{Every, Pairwise}
 use Rattle.theorems.proofs.Chains.{partner-related}
 use Rattle.reach.specs.Tied.{numberOf}
 use Rattle.pairs.specs.Admission.{leadsTo, admittedIn}
-use Rattle.pairs.proofs.Tables.{no-partner}
+use Rattle.pairs.proofs.Tables.{chosen, no-partner}
 
-eqb-back : (a b : ℕ) → eqb a b ≡ eqb b a
+-- numbers are compared either way round
+pub eqb-back : (a b : ℕ) → eqb a b ≡ eqb b a
 eqb-back a b = same-test (eqb a b) (eqb b a) (λ e. eq-eqb b a (sym (eqb-true a b e))) (λ e. eq-eqb a b (sym (eqb-true b a e)))
 
 -- a statement has a partner where it is left in a pair
 abbrev isSome : Option ℕ → Bool
 isSome none = false
 isSome (some t) = true
-
-abbrev chosen : Bool → Pair → Option ℕ → Option ℕ
-chosen test p other = elim test [ true ↦ some (p .right) | false ↦ other ]
 
 left-partner : (pairs : List Pair) (s : ℕ) → isLeft pairs s ≡ isSome (partner pairs s)
 left-partner [] s = refl

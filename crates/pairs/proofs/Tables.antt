@@ -81,7 +81,8 @@ abbrev orElse : Option ℕ → ℕ → ℕ
 orElse none other = other
 orElse (some s) other = s
 
-abbrev chosen : Bool → Pair → Option ℕ → Option ℕ
+-- the choice that finds a partner
+abbrev pub chosen : Bool → Pair → Option ℕ → Option ℕ
 chosen test p other = elim test [ true ↦ some (p .right) | false ↦ other ]
 
 -- a statement from which all these lefts differ has no partner in them
