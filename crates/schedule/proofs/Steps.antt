@@ -288,7 +288,7 @@ module _ (ss : List Statement) (direct reached : List ℕ) (rowed : Rowed ss dir
   -- What stands in the order at the end are the words of the scheduled units.
   pub schedule-in-order : (units : List (List ℕ)) (table needs order : List ℕ) (waiting : ℕ)
       → Units ss units → Waits direct units table needs waiting → 64 ≤ length table → 64 ≤ length needs → length ss ≤ length order
-      → Stands (schedule ss units) (scheduledTables (length ss) direct table needs waiting order)
+      → let end = scheduledTables (length ss) direct table needs waiting order in InOrder (schedule ss units) (end .order) (end .size)
   unfolding schedule scheduledTables
   schedule-in-order units table needs order waiting known waits table-room needs-room order-room =
       answers (length ss + length ss) units [] (stage table needs order waiting nobody 0)
