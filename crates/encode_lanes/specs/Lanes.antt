@@ -61,19 +61,27 @@ abbrev pub cellsOf : ℕ → ℕ → ℕ
 cellsOf first second = cellCode first + cellCode second
 
 -- "k + cell lanes"
-abbrev pub writeG : ℕ → ℕ → List ℕ → Listing → Listing
-writeG r k lanes l =
+abbrev pub gatherTwo : ℕ → ℕ → List ℕ → Listing → Listing
+gatherTwo r k lanes l =
+    let place = l .written .size in
+    let a = laneAt lanes 0 in
+    let b = laneAt lanes 1 in
+    record {
+      out = putOperands (putFront (l .out) place (3 + widthOf a b) 3 r k) (place + 4) a b;
+      written = recordBehind (l .written) (3 + widthOf a b) (2 + cellsOf a b);
+    }
+
+abbrev pub gatherFour : ℕ → ℕ → List ℕ → Listing → Listing
+gatherFour r k lanes l =
     let place = l .written .size in
     let a = laneAt lanes 0 in
     let b = laneAt lanes 1 in
     let c = laneAt lanes 2 in
     let d = laneAt lanes 3 in
-    pick (eqb k 2)
-    (record {
-      out = putOperands (putFront (l .out) place (3 + widthOf a b) 3 r k) (place + 4) a b;
-      written = recordBehind (l .written) (3 + widthOf a b) (2 + cellsOf a b);
-    })
-    (record {
+    record {
       out = putOperands (putOperands (putFront (l .out) place (3 + widthOf a b + widthOf c d) 3 r k) (place + 4) a b) (place + 4 + widthOf a b) c d;
       written = recordBehind (l .written) (3 + widthOf a b + widthOf c d) (4 + cellsOf a b + cellsOf c d);
-    })
+    }
+
+abbrev pub writeG : ℕ → ℕ → List ℕ → Listing → Listing
+writeG r k lanes l = pick (eqb k 2) (gatherTwo r k lanes l) (gatherFour r k lanes l)

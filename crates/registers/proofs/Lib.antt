@@ -1,3 +1,4 @@
 pub mod Laned
 pub mod Ends
 pub mod Table
+pub mod Searching
