@@ -5,18 +5,18 @@ use mathlib.Core.Bool.{true}
 use mathlib.Core.List.{List, _++_}
 use native.Mathlib.Omega.{arith}
 use lib.ListN.{length, take, drop}
-use borrow.Author.Tests.{lt-ltb, le-ltb, le-leb, lt-leb}
+use borrow.Author.Tests.{le-leb, lt-leb}
 use Rattle.basics.specs.Lists.{all}
 use Rattle.meaning.specs.declared.Block.{Block as Slots}
 use Rattle.meaning.specs.Numbers.{Answer, refused, done}
 use Rattle.meaning.specs.Block.{Block, declared, blockPrice}
 use Rattle.meaning.specs.Format.{readBlock}
-use Rattle.meaning.specs.List.{listPrice, listBytes}
-use Rattle.meaning.specs.Choice.{packedList, plainList, chosenList}
+use Rattle.meaning.specs.List.{listBytes}
+use Rattle.meaning.specs.Choice.{chosenList}
 use Rattle.meaning.specs.Calls.{listMade, blockRead, readBlockCall, makeListCall}
 use Rattle.theorems.proofs.Bytes.{isByte}
 use Rattle.theorems.proofs.Readable.{refused-number, done-readable, done-fits, declared-in-memory}
-use Rattle.maker.specs.Promises.{Legal, Holds}
+use Rattle.choice.specs.Promises.{Legal, Holds}
 
 -- a refusal of the block ends the call
 stopped-at : (a : Answer Block) (room : List ℕ) (status : ℕ) → blockRead a .status ≡ status → (status ≡ 0 → ⊥)
@@ -56,16 +56,7 @@ pub read-legal : (bytes : List ℕ) (slots : Slots) → all isByte bytes ≡ tru
 unfolding readBlockCall
 read-legal bytes slots are e same = legal-of bytes (readBlock bytes) slots refl are e same
 
--- "This list is the answer if its price is below the block's; else S for every statement in block order."
 module _ (b : Block) where
-  pub packed-chosen : (price : ℕ) → price ≡ listPrice (b .statements) (packedList b) → price < blockPrice (b .statements) → packedList b ≡ chosenList b
-  unfolding chosenList
-  packed-chosen price e below = rw (lt-ltb (listPrice (b .statements) (packedList b)) (blockPrice (b .statements)) (omega arith))
-
-  pub plain-chosen : (price : ℕ) → price ≡ listPrice (b .statements) (packedList b) → blockPrice (b .statements) ≤ price → plainList b ≡ chosenList b
-  unfolding chosenList
-  plain-chosen price e above = rw (le-ltb (listPrice (b .statements) (packedList b)) (blockPrice (b .statements)) (omega arith))
-
   -- "block, then 7": the list in the room's first bytes, or the length that it needs
   pub made-whole : (out room : List ℕ) (size block price : ℕ) → Holds (b .statements) (chosenList b) out size price → block ≡ blockPrice (b .statements)
       → size ≤ length room

@@ -20,7 +20,7 @@ use Rattle.theorems.proofs.Operands.{constantFits}
 use Rattle.theorems.proofs.Records.{constantsFit}
 use Rattle.theorems.proofs.Readable.{readable-length}
 use Rattle.codes.specs.Fitting.{placeFits, operandFits, statementFits}
-use Rattle.maker.specs.Promises.{Legal}
+use Rattle.choice.specs.Promises.{Legal}
 
 module _ (b : Block) (legal : Legal b) where
   place-fits : (p : Place) → declaresPlace (b .variables) (b .lengths) p ≡ true → placeFits p ≡ true

@@ -1,24 +1,12 @@
--- What the parts of the maker promise to each other: a block that was read, and a list that stands in a buffer.
-use mathlib.Core.Path.{_≡_}
-use Prim.Native.Nat.{ℕ, _≤_}
-use mathlib.Core.Bool.{true}
+-- What the parts of the maker promise to each other: the tables of a block that was read, and the answer.
+use Prim.Native.Nat.{ℕ}
 use mathlib.Core.List.{List}
-use lib.ListN.{length, take}
-use Rattle.basics.specs.Lists.{all}
-use Rattle.meaning.specs.declared.Statement.{Statement}
 use Rattle.meaning.specs.Block.{Block}
-use Rattle.meaning.specs.List.{Instruction, listPrice, listBytes}
 use Rattle.meaning.specs.Calls.{ListMade}
-use Rattle.theorems.proofs.Records.{constantsFit}
-use Rattle.theorems.proofs.Readable.{Readable}
 use Rattle.facts.specs.Tied.{Stated, Named}
 use Rattle.reach.specs.Tied.{Defined}
+use Rattle.choice.specs.Promises.{Legal}
 use Rattle.maker.specs.declared.Made.{Made}
-
--- what reading promises of a block
-pub record Legal (b : Block) : Type 0 where
-  pub readable : Readable b
-  pub constants : all constantsFit (b .statements) ≡ true
 
 -- the tables of a block say what the phases ask of its statements
 pub record Prepared (b : Block) (facts numbers writers lefts rights : List ℕ) : Type 0 where
@@ -26,13 +14,6 @@ pub record Prepared (b : Block) (facts numbers writers lefts rights : List ℕ) 
   pub stated : Stated (b .statements) facts
   pub defined : Defined (b .statements) facts
   pub named : Named (b .statements) numbers writers lefts rights
-
--- the list stands in the first so many bytes, and costs so much
-pub record Holds (ss : List Statement) (list : List Instruction) (out : List ℕ) (size price : ℕ) : Type 0 where
-  pub bytes : take size out ≡ listBytes list
-  pub sized : size ≡ length (listBytes list)
-  pub room : size ≤ length out
-  pub priced : price ≡ listPrice ss list
 
 -- what the code returns and leaves, as document 01's answer
 abbrev pub answer : Made → List ℕ → ListMade

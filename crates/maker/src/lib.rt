@@ -3,7 +3,16 @@
 ghost use mathlib.Core.Path.{_≡_};
 ghost use mathlib.Core.List.{_++_};
 ghost use Prim.Native.Nat.{_≤_};
-ghost use lib.ListN.{length, take, drop};
+ghost use lib.ListN.{length, take, drop, replicate};
+ghost use Rattle.meaning.specs.Numbers.{done};
+ghost use Rattle.meaning.specs.Block.{declared};
+ghost use Rattle.meaning.specs.Choice.{scheduledUnits, packedList};
+ghost use Rattle.meaning.specs.Calls.{listMade, makeListCall};
+ghost use Rattle.facts.specs.Facts.{statedFacts};
+ghost use Rattle.facts.specs.Tied.{Stated};
+ghost use Rattle.units.specs.Words.{InOrder};
+ghost use Rattle.choice.specs.Promises.{Legal, Holds};
+ghost use Rattle.maker.specs.Promises.{Prepared, answer};
 use encode::Written;
 use meaning::Block;
 
@@ -15,44 +24,15 @@ pub struct Made {
     pub list: u64,
 }
 
-fn refused(status: u8, size: usize) -> Made {
+fn refused(status: u8, size: usize) -> Made
+    ensures { λ r. ⌜ r ≡ record { status = status; size = size; block = 0; list = 0 } ⌝ }
+{
     Made {
         status,
         size,
         block: 0,
         list: 0,
     }
-}
-
-// "The price of a block is the sum of its statements' S prices."
-fn block_price(facts: &[u64], n: usize) -> u64 {
-    let mut price: u64 = 0;
-    let mut i: usize = 0;
-    while i < n {
-        price += facts::fact(facts, facts::PRICE, i);
-        i += 1;
-    }
-    price
-}
-
-// "S for every statement in block order"
-fn write_plain(out: &mut [u8], facts: &[u64], n: usize) -> Written {
-    let mut w = encode::nothing_written();
-    let mut i: usize = 0;
-    while i < n {
-        w = encode::write_s(out, w, i as u8, facts::fact(facts, facts::PRICE, i));
-        i += 1;
-    }
-    encode::write_header(out, w);
-    w
-}
-
-// "This list is the answer if its price is below the block's".
-fn choose(out: &mut [u8], facts: &[u64], n: usize, packed: Written, price: u64) -> Written {
-    if packed.price < price {
-        return packed;
-    }
-    write_plain(out, facts, n)
 }
 
 fn copy_into(room: &mut [u8], out: &[u8], size: usize)
@@ -76,7 +56,11 @@ fn schedule_units(
     lefts: &[u64],
     rights: &[u64],
     scheduled: &mut [u64],
-) -> usize {
+) -> usize
+    requires { ⌜ (n ≡ length (declared block .statements)) × (Prepared (declared block) (now facts) (now numbers) (now writers) (now lefts) (now rights)) ⌝ }
+    requires { ⌜ now scheduled ≡ replicate 64 0 ⌝ }
+    ensures { λ r. ⌜ InOrder (scheduledUnits (declared block .statements)) (now (scheduled .exit)) r ⌝ }
+{
     let direct = reach::dependences(block, n, numbers, writers, lefts, rights);
     let reached = reach::reachability(&direct, n);
     let mut order = [64u8; 64];
@@ -109,7 +93,12 @@ fn schedule_units(
 }
 
 // The bytes of the packed list.
-fn write_packed(block: Block, n: usize, facts: &mut [u64], out: &mut [u8]) -> Written {
+fn write_packed(block: Block, n: usize, facts: &mut [u64], out: &mut [u8]) -> Written
+    requires { ⌜ (n ≡ length (declared block .statements)) × ((Legal (declared block)) × (now facts ≡ statedFacts (block .statements) n (replicate 512 0))) ⌝ }
+    requires { ⌜ 4000 ≤ length (now out) ⌝ }
+    ensures { λ r. ⌜ (Holds (declared block .statements) (packedList (declared block)) (now (out .exit)) (r .size) (r .price))
+        × (Stated (declared block .statements) (now (facts .exit))) ⌝ }
+{
     let mut numbers = [0u8; 2570];
     let mut writers = [0u64; 193];
     let mut lefts = [0u64; 193];
@@ -141,20 +130,18 @@ fn write_packed(block: Block, n: usize, facts: &mut [u64], out: &mut [u8]) -> Wr
     )
 }
 
-fn statement_count(count: u8) -> usize {
-    let n = count as usize;
-    if n < 64 { n } else { 64 }
-}
-
 // "Making a list: block, then 7."
-fn make(block: Block, room: &mut [u8]) -> Made {
-    let n = statement_count(block.count);
+fn make(block: Block, room: &mut [u8]) -> Made
+    requires { ⌜ Legal (declared block) ⌝ }
+    ensures { λ r. ⌜ answer r (now (room .exit)) ≡ listMade (now (room .entry)) (done (declared block)) ⌝ }
+{
+    let n = run_block::at_most(block.count, 64);
     let mut facts = [0u64; 512];
-    let mut out = [0u8; 2048];
+    let mut out = [0u8; 4096];
     facts::fill_facts(block, n, &mut facts);
-    let price = block_price(&facts, n);
+    let price = run_block::block_price(block) as u64;
     let packed = write_packed(block, n, &mut facts, &mut out);
-    let w = choose(&mut out, &facts, n, packed, price);
+    let w = choice::choose(&mut out, &facts, block, n, packed, price);
     let size = w.size as usize;
     if room.len() < size {
         return refused(7, size);
@@ -168,10 +155,13 @@ fn make(block: Block, room: &mut [u8]) -> Made {
     }
 }
 
-pub fn make_list(bytes: &[u8], room: &mut [u8]) -> Made {
+pub fn make_list(bytes: &[u8], room: &mut [u8]) -> Made
+    ensures { λ r. ⌜ answer r (now (room .exit)) ≡ makeListCall (now (bytes .entry)) (now (room .entry)) ⌝ }
+{
     let read = reader::read_block(bytes);
-    if read.status != 0 {
-        return refused(read.status, 0);
+    let status = read.status;
+    if status != 0 {
+        return refused(status, 0);
     }
     let block = read.block;
     make(block, room)
