@@ -3,7 +3,7 @@
 
 ghost use mathlib.Core.Path.{_≡_};
 ghost use Rattle.memory.specs.Lent.{lent};
-ghost use Rattle.meaning.specs.Calls.{runBlockCall};
+ghost use Rattle.meaning.specs.Calls.{runBlockCall, runListCall};
 ghost use Rattle.nephinor.specs.Exports.{ranPacked};
 
 #[no_mangle]
@@ -12,5 +12,19 @@ pub extern "C" fn nephinor_run_block(bytes: &[u8], variables: &mut [u32], cells:
         ≡ ranPacked (runBlockCall (now (bytes .entry)) (lent (now (variables .entry)) (now (cells .entry)))) ⌝ }
 {
     let ran = crate::run_block(bytes, variables, cells);
+    crate::packed::pack(ran.status, 0, ran.price, 0)
+}
+
+#[no_mangle]
+pub extern "C" fn nephinor_run_list(
+    block_bytes: &[u8],
+    bytes: &[u8],
+    variables: &mut [u32],
+    cells: &mut [u32],
+) -> u64
+    ensures { λ r. ⌜ record { number = r; contents = lent (now (variables .exit)) (now (cells .exit)) }
+        ≡ ranPacked (runListCall (now («block_bytes» .entry)) (now (bytes .entry)) (lent (now (variables .entry)) (now (cells .entry)))) ⌝ }
+{
+    let ran = crate::run_list(block_bytes, bytes, variables, cells);
     crate::packed::pack(ran.status, 0, ran.price, 0)
 }

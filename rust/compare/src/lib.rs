@@ -11,6 +11,17 @@ mod exported {
             cells: *mut u32,
             cells_length: usize,
         ) -> u64;
+
+        pub fn nephinor_run_list(
+            block: *const u8,
+            block_length: usize,
+            list: *const u8,
+            list_length: usize,
+            variables: *mut u32,
+            variables_length: usize,
+            cells: *mut u32,
+            cells_length: usize,
+        ) -> u64;
     }
 }
 
@@ -44,6 +55,23 @@ pub fn run_block(bytes: &[u8], variables: &mut [u32], cells: &mut [u32]) -> Answ
         exported::nephinor_run_block(
             bytes.as_ptr(),
             bytes.len(),
+            variables.as_mut_ptr(),
+            variables.len(),
+            cells.as_mut_ptr(),
+            cells.len(),
+        )
+    })
+}
+
+/// Runs a list beside its block on what is lent: status and price paid.
+pub fn run_list(block: &[u8], list: &[u8], variables: &mut [u32], cells: &mut [u32]) -> Answer {
+    // SAFETY: as for `run_block`.
+    Answer::unpacked(unsafe {
+        exported::nephinor_run_list(
+            block.as_ptr(),
+            block.len(),
+            list.as_ptr(),
+            list.len(),
             variables.as_mut_ptr(),
             variables.len(),
             cells.as_mut_ptr(),
