@@ -1,6 +1,6 @@
 -- A table of slots filled from the front: what a loop that sets one slot a turn has done at number i, and what is left to do.
 use mathlib.Core.Path.{_≡_, refl, sym, ap, _∙_}
-use mathlib.Core.List.{List, [], _∷_, _++_}
+use mathlib.Core.List.{List, [], _∷_, _++_, append-assoc, append-nil}
 use Prim.Native.Nat.{ℕ, suc, _+_, _-_, _≤_, _<_}
 use native.Mathlib.Numerals.{add-one}
 use native.Mathlib.Nat.{sub-zero}
@@ -20,10 +20,6 @@ module _ {A : Type 0} (f : ℕ → A) (n : ℕ) where
   pub start : (slots : List A) → length slots ≡ n → Filled slots 0
   start slots e = record { low = omega arith; long = e; whole = ap (λ (k : ℕ). from f k 0) (sub-zero n) }
 
-  append-one : (xs : List A) (x : A) (ys : List A) → (xs ++ x ∷ []) ++ ys ≡ xs ++ x ∷ ys
-  append-one [] x ys = refl
-  append-one (y ∷ xs) x ys = ap {B = List A} (λ rest. y ∷ rest) (append-one xs x ys)
-
   next-from : (k i : ℕ) → from f (suc k) i ≡ f i ∷ from f k (i + 1)
   unfolding from
   next-from k i = refl
@@ -31,10 +27,6 @@ module _ {A : Type 0} (f : ℕ → A) (n : ℕ) where
   no-from : (i : ℕ) → from f 0 i ≡ []
   unfolding from
   no-from i = refl
-
-  append-nothing : (xs : List A) → xs ++ [] ≡ xs
-  append-nothing [] = refl
-  append-nothing (x ∷ xs) = ap {B = List A} (λ rest. x ∷ rest) (append-nothing xs)
 
   pub next : {slots : List A} {i : ℕ} → Filled slots i → (v : A) → i < n → v ≡ f i → Filled (set slots i v) (i + 1)
   next {slots} {i} w v below e =
@@ -45,7 +37,7 @@ module _ {A : Type 0} (f : ℕ → A) (n : ℕ) where
         whole =
             ap (λ (k : ℕ). take k (set slots i v) ++ from f left (i + 1)) (add-one i)
             ∙ ap (λ (xs : List A). xs ++ from f left (i + 1)) (take-suc-set slots i v (omega (arith, w .long)))
-            ∙ append-one (take i slots) v (from f left (i + 1))
+            ∙ append-assoc (take i slots) (v ∷ []) (from f left (i + 1))
             ∙ ap (λ (x : A). take i slots ++ x ∷ from f left (i + 1)) e
             ∙ ap (λ (xs : List A). take i slots ++ xs) (sym (ap (λ (k : ℕ). from f k i) (more n i below) ∙ next-from left i))
             ∙ w .whole;
@@ -53,7 +45,7 @@ module _ {A : Type 0} (f : ℕ → A) (n : ℕ) where
 
   pub all-filled : {slots : List A} {i : ℕ} → Filled slots i → n ≤ i → slots ≡ from f n 0
   all-filled {slots} {i} w past =
-      sym (append-nothing slots)
+      sym (append-nil slots)
       ∙ ap (λ (xs : List A). xs ++ []) (sym (take-all i slots (omega (arith, w .long))))
       ∙ ap (λ (xs : List A). take i slots ++ xs) (sym (ap (λ (k : ℕ). from f k i) (none-left n i past) ∙ no-from i))
       ∙ w .whole

@@ -3,6 +3,20 @@
 
 mod exported {
     extern "C" {
+        pub fn nephinor_read_block(
+            bytes: *const u8,
+            bytes_length: usize,
+            numbers: *mut u32,
+            numbers_length: usize,
+        ) -> u64;
+
+        pub fn nephinor_write_block(
+            numbers: *const u32,
+            numbers_length: usize,
+            room: *mut u8,
+            room_length: usize,
+        ) -> u64;
+
         pub fn nephinor_run_block(
             bytes: *const u8,
             bytes_length: usize,
@@ -45,6 +59,36 @@ impl Answer {
             list_price: (number >> 40) as u16,
         }
     }
+}
+
+/// How many numbers a block in memory takes as a table.
+pub const TABLE: usize = 652;
+
+/// Reads a block into a table of numbers: status, and how many numbers that takes.
+pub fn read_block(bytes: &[u8], numbers: &mut [u32]) -> Answer {
+    // SAFETY: each pointer stands with the length of its own slice, and the one that is written is
+    // borrowed for the call alone. The library keeps none of them.
+    Answer::unpacked(unsafe {
+        exported::nephinor_read_block(
+            bytes.as_ptr(),
+            bytes.len(),
+            numbers.as_mut_ptr(),
+            numbers.len(),
+        )
+    })
+}
+
+/// Writes the block that a table of numbers says: status, and how many bytes that takes.
+pub fn write_block(numbers: &[u32], room: &mut [u8]) -> Answer {
+    // SAFETY: as for `read_block`.
+    Answer::unpacked(unsafe {
+        exported::nephinor_write_block(
+            numbers.as_ptr(),
+            numbers.len(),
+            room.as_mut_ptr(),
+            room.len(),
+        )
+    })
 }
 
 /// Runs a block on what is lent: status and price paid.
