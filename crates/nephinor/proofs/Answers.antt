@@ -12,6 +12,7 @@ use Rattle.nephinor.specs.Packed.{packed}
 use Rattle.table.specs.Table.{tableOf}
 use Rattle.table.specs.Taken.{blockOf}
 use Rattle.nephinor.specs.Exports.{tableRead, writtenPacked, tableWritten}
+use Rattle.table.proofs.Alike.{call-alike}
 use Rattle.table.proofs.Rows.{table-stored}
 
 module _ (table : List ℕ) (r : BlockRead) where
@@ -38,4 +39,4 @@ module _ (table room : List ℕ) where
       → number ≡ packed (w .status) (w .size) 0 0
       → record { number = number; room = w .room } ≡ tableWritten table room
   table-written b number w fits same writes packs =
-      rw (packs, le-leb 652 (length table) fits) (ap writtenPacked (writes ∙ ap (λ (slots : Slots). writeBlockCall slots room) same))
+      rw (packs, le-leb 652 (length table) fits) (ap writtenPacked (writes ∙ ap (λ (slots : Slots). writeBlockCall slots room) same ∙ call-alike table room))

@@ -1,14 +1,13 @@
 -- A block's bytes read into a table and written from it again are the same bytes.
 use mathlib.Core.Path.{_≡_, refl, sym, ap, subst, _∙_}
-use mathlib.Core.Bool.{Bool, true, _&&_}
+use mathlib.Core.Bool.{true, _&&_}
 use mathlib.Core.List.{List, [], _∷_, _++_}
 use mathlib.Core.Logic.{_⊎_, inl, inr}
 use Prim.Native.Nat.{ℕ, zero, suc, _-_, _≤_, _<_}
 use native.Mathlib.Omega.{arith}
-use lib.Dec.{eqb, leb, ltb}
+use lib.Dec.{ltb}
 use lib.ListN.{length, getD, drop, replicate, length-append, length-replicate, List·getD-append, List·getD-eq-default}
 use borrow.Author.Tests.{eq-eqb, le-leb, leb-true, ltb-true}
-use Rattle.basics.specs.Choice.{pick}
 use Rattle.basics.specs.Lists.{all}
 use Rattle.basics.proofs.Tests.{and-left, and-right, below-or-not}
 use Rattle.basics.proofs.Parts.{all-at}
@@ -20,7 +19,7 @@ use Rattle.meaning.specs.declared.Statement.{Statement}
 use Rattle.meaning.specs.declared.Block.{Block as Slots}
 use Rattle.meaning.specs.Numbers.{Answer, refused, done}
 use Rattle.meaning.specs.Block.{Block, blank, declaresPlace, declaresOperand, declaresStatement}
-use Rattle.meaning.specs.Format.{lengthFits, isOperand, wellFormed, readBlock, inMemory}
+use Rattle.meaning.specs.Format.{wellFormed, readBlock, inMemory}
 use Rattle.meaning.specs.Calls.{blockRead, readBlockCall, writeBlockCall}
 use Rattle.theorems.proofs.Bytes.{isByte}
 use Rattle.theorems.proofs.Readable.{Readable, refused-number, done-readable}
@@ -28,6 +27,7 @@ use Rattle.theorems.proofs.BlockRoundTrip.{read-then-write}
 use Rattle.table.specs.Table.{tableOf}
 use Rattle.table.specs.Taken.{blockOf}
 use Rattle.table.proofs.Rows.{table-length}
+use Rattle.table.proofs.Alike.{lengths-small, call-alike}
 use Rattle.table.proofs.Back.{PlaceFits, OperandFits, StatementFits, SlotsFit, table-back}
 use Rattle.nephinor.specs.Packed.{packed}
 use Rattle.nephinor.specs.Exports.{tableRead, writtenPacked, tableWritten}
@@ -47,11 +47,7 @@ module _ {A : Type 0} (d : A) where
 -- a block within the limits fits its slots
 module _ (b : Block) (h : Readable b) where
   length-fits : (i : ℕ) → getD (b .lengths) i 0 ≤ 256
-  length-fits i = either (below-or-not i (length (b .lengths)))
-    where
-      either : (i < length (b .lengths)) ⊎ (length (b .lengths) ≤ i) → getD (b .lengths) i 0 ≤ 256
-      either (inl low) = leb-true _ 256 (and-right (leb 1 (getD (b .lengths) i 0)) _ (all-at lengthFits (b .lengths) i 0 (h .lengths) low))
-      either (inr past) = omega (arith, List·getD-eq-default (b .lengths) 0 past)
+  length-fits = lengths-small (b .lengths) (h .lengths)
 
   place-fits : (p : Place) → declaresPlace (b .variables) (b .lengths) p ≡ true → PlaceFits p
   place-fits (Variable v) e = omega (arith, ltb-true v (b .variables) e, h .variables)
@@ -130,4 +126,4 @@ table-round-trip bytes table room are status long enough =
     let large : 652 ≤ length after = omega (arith, length-append (tableOf b) (drop (length (tableOf b)) table)) in
     let back : blockOf after ≡ b = table-back b fits after λ i low. List·getD-append (tableOf b) (drop (length (tableOf b)) table) 0 i (omega arith) in
     rw (eq-eqb (readBlockCall bytes .status) 0 status, le-leb 652 (length table) long, le-leb 652 (length after) large)
-    (ap (λ (slots : Slots). writtenPacked (writeBlockCall slots room)) back ∙ ap writtenPacked (read-then-write bytes room are status enough))
+    (ap writtenPacked (sym (call-alike after room) ∙ ap (λ (slots : Slots). writeBlockCall slots room) back ∙ read-then-write bytes room are status enough))

@@ -7,7 +7,7 @@ use Rattle.basics.specs.Choice.{pick}
 use Rattle.meaning.specs.Machine.{Contents}
 use Rattle.meaning.specs.Calls.{BlockRead, BlockWritten, Ran, inRoom, writeBlockCall}
 use Rattle.table.specs.Table.{tableOf}
-use Rattle.table.specs.Taken.{blockOf}
+use Rattle.table.specs.Said.{blockSaid}
 use Rattle.nephinor.specs.Packed.{packed}
 
 -- Running: the status and the price paid.
@@ -42,4 +42,4 @@ writtenPacked w = record { number = packed (w .status) (w .size) 0 0; room = w .
 
 abbrev pub tableWritten : List ℕ → List ℕ → TableWritten
 tableWritten table room =
-    pick (leb 652 (length table)) (writtenPacked (writeBlockCall (blockOf table) room)) (record { number = packed 2 0 0 0; room = room })
+    pick (leb 652 (length table)) (writtenPacked (writeBlockCall (blockSaid table) room)) (record { number = packed 2 0 0 0; room = room })

@@ -24,7 +24,7 @@ pub extern "C" fn nephinor_read_block(bytes: &[u8], numbers: &mut [u32]) -> u64
     crate::packed::pack(0, 652, 0, 0)
 }
 
-// A block's bytes written from such a table (table/specs/Taken.antt).
+// A block's bytes written from such a table (table/specs/Said.antt).
 #[no_mangle]
 pub extern "C" fn nephinor_write_block(numbers: &[u32], room: &mut [u8]) -> u64
     ensures { λ r. ⌜ record { number = r; room = now (room .exit) } ≡ tableWritten (now (numbers .entry)) (now (room .entry)) ⌝ }

@@ -18,21 +18,8 @@ use Rattle.meaning.specs.declared.Statement.{Statement}
 use Rattle.meaning.specs.declared.Block.{Block as Slots}
 use Rattle.meaning.specs.Block.{blank}
 use Rattle.table.specs.Table.{operandNumbers, statementNumbers, tableOf}
-use Rattle.table.specs.Taken.{
-  byteOf,
-  lengthOf,
-  placeSaid,
-  placeOf,
-  operandSaid,
-  operandOf,
-  number,
-  broken,
-  statementAt,
-  from,
-  lengthIn,
-  statementIn,
-  blockOf,
-}
+use Rattle.table.specs.Said.{placeSaid, operandSaid, number, broken, from}
+use Rattle.table.specs.Taken.{byteOf, lengthOf, placeOf, operandOf, statementAt, lengthIn, statementIn, blockOf}
 use Rattle.table.proofs.Rows.{statement-ten}
 
 -- numbers that fit their slots: bytes, and two bytes for a length

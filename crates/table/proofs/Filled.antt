@@ -8,7 +8,7 @@ use native.Mathlib.Omega.{arith}
 use lib.ListN.{length, take, set, length-set}
 use lib.Seq.{take-suc-set, take-all}
 use Rattle.basics.proofs.Counting.{more, none-left}
-use Rattle.table.specs.Taken.{from}
+use Rattle.table.specs.Said.{from}
 
 module _ {A : Type 0} (f : ℕ → A) (n : ℕ) where
   -- the slots so far, with what is left behind them, are all

@@ -6,7 +6,8 @@ use meaning::Place;
 use meaning::Statement;
 ghost use mathlib.Core.Path.{_≡_};
 ghost use Prim.Native.Nat.{_≤_};
-ghost use Rattle.table.specs.Taken.{byteOf, lengthOf, placeSaid, placeOf, operandSaid, operandOf, number, placeSaidAt, placeAt, operandSaidAt, operandAt, statementSaidAt, statementAt, from, lengthIn, statementIn, blockOf};
+ghost use Rattle.table.specs.Said.{placeSaid, operandSaid, number, placeSaidAt, operandSaidAt, statementSaidAt, from};
+ghost use Rattle.table.specs.Taken.{byteOf, lengthOf, placeOf, operandOf, placeAt, operandAt, statementAt, lengthIn, statementIn, blockOf};
 
 fn byte_of(n: u32) -> u8
     ensures { λ r. ⌜ r ≡ byteOf n ⌝ }

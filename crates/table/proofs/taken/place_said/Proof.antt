@@ -1,5 +1,5 @@
 -- `taken::place_said` meets its contract: by the kind.
-use borrow.Author.Tests.{le-ltb, lt-ltb, le-leb, lt-leb, eq-eqb, ne-eqb}
+use borrow.Author.Tests.{eq-eqb, ne-eqb}
 use Rattle.table.proofs.taken.place_said.Statement.{statement}
 use Rattle.table.proofs.taken.place_said.Tie as tie
 

@@ -6,7 +6,6 @@ use Rattle.meaning.specs.declared.Statement.{Statement}
 use Rattle.meaning.specs.Block.{blank}
 use Rattle.table.specs.Taken.{statementIn}
 use Rattle.table.proofs.Filled.{Filled, start, next, all-filled}
-use borrow.Author.Needs.{needs}
 use Rattle.table.proofs.taken.statements_of.Statement.{statement}
 use Rattle.table.proofs.taken.statements_of.Tie as tie
 
