@@ -9,7 +9,13 @@ use second::damage::{damage_list, random_list};
 use second::random::Random;
 
 /// Mostly exactly what the block declares; else one variable or cell more or less.
-const MORE: [usize; 10] = [0, 1, 1, 1, 1, 1, 1, 1, 1, 2];
+fn one_off(random: &mut Random, declared: usize) -> usize {
+    match random.below(20) {
+        0 => declared.saturating_sub(1),
+        1 => declared + 1,
+        _ => declared,
+    }
+}
 
 /// Runs both on the same contents, which must come out alike, and as lent if refused.
 fn compare_runs(
@@ -18,12 +24,9 @@ fn compare_runs(
     second: impl Fn(&mut [u32], &mut [u32]) -> (u8, u32),
     proved: impl Fn(&mut [u32], &mut [u32]) -> Answer,
 ) -> u8 {
-    let sizes = (
-        usize::from(block.variables) + random.pick(&MORE),
-        block.cell_count() + random.pick(&MORE),
-    );
-    let variables = random.contents(sizes.0.saturating_sub(1));
-    let cells = random.contents(sizes.1.saturating_sub(1));
+    let (variables, cells) = (usize::from(block.variables), block.cell_count());
+    let sizes = (one_off(random, variables), one_off(random, cells));
+    let (variables, cells) = (random.contents(sizes.0), random.contents(sizes.1));
     let (mut other_variables, mut other_cells) = (variables.clone(), cells.clone());
     let expected = second(&mut other_variables, &mut other_cells);
     let mut lent_variables = Lent::new(&variables, 0xABCD_0123);
@@ -85,5 +88,5 @@ fn runs_of_lists_agree() {
     });
     let met = |status: usize| seen[status] > 500;
     assert!((0..10).all(|status| met(status) == (status != 7)), "{seen:?}");
-    assert_eq!(seen[7], 0);
+    assert!(seen[0] + seen[8] + seen[9] > 100_000, "{seen:?}");
 }
