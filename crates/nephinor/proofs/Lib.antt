@@ -1,1 +1,3 @@
 pub mod Unpacked
+pub mod Answers
+pub mod Tables

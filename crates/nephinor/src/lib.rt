@@ -6,7 +6,7 @@ mod packed;
 
 use meaning::Block;
 ghost use mathlib.Core.Path.{_≡_};
-ghost use Rattle.meaning.specs.Calls.{readBlockCall, writeBlockCall, runBlockCall};
+ghost use Rattle.meaning.specs.Calls.{readBlockCall, writeBlockCall, runBlockCall, runListCall};
 ghost use Rattle.memory.specs.Lent.{lent};
 ghost use Rattle.reader.specs.Answers.{answer as read};
 ghost use Rattle.run_block.specs.Answers.{answer as ran};
@@ -31,4 +31,17 @@ pub fn run_block(bytes: &[u8], variables: &mut [u32], cells: &mut [u32]) -> run_
         ≡ runBlockCall (now (bytes .entry)) (lent (now (variables .entry)) (now (cells .entry))) ⌝ }
 {
     run_block::run_block(bytes, variables, cells)
+}
+
+// Running a list beside its block: the number, the price paid, and what was lent as the list leaves it.
+pub fn run_list(
+    block_bytes: &[u8],
+    bytes: &[u8],
+    variables: &mut [u32],
+    cells: &mut [u32],
+) -> run_block::Ran
+    ensures { λ r. ⌜ ran r (lent (now (variables .exit)) (now (cells .exit)))
+        ≡ runListCall (now («block_bytes» .entry)) (now (bytes .entry)) (lent (now (variables .entry)) (now (cells .entry))) ⌝ }
+{
+    run_list::run_list(block_bytes, bytes, variables, cells)
 }

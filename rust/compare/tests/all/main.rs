@@ -3,5 +3,7 @@
 
 mod blocks;
 mod lent;
+mod reading;
 mod running;
+mod tables;
 mod vectors;

@@ -1,20 +1,31 @@
-//! Every line of the shared vectors of running a block, by the proved library.
+//! Every line of the shared vectors of running a block and running a list, by the proved library.
 
 use crate::lent::Lent;
+use compare::Answer;
 use second::text;
 
-#[test]
-fn run_block() {
-    let path = format!("{}/../vectors/run-block.txt", env!("CARGO_MANIFEST_DIR"));
+/// Compares each line of a file: so many fields of bytes, variables and cells before, then the answer
+/// and variables and cells after.
+fn compare_lines(
+    name: &str,
+    count: usize,
+    fields_of_bytes: usize,
+    run: impl Fn(&[Box<[u8]>], &mut [u32], &mut [u32]) -> Answer,
+) {
+    let path = format!("{}/../vectors/{name}", env!("CARGO_MANIFEST_DIR"));
     let lines = std::fs::read_to_string(path).expect("the vectors are part of the repository");
-    assert_eq!(lines.lines().count(), 172);
+    assert_eq!(lines.lines().count(), count);
     for (number, line) in lines.lines().enumerate() {
         let fields: Vec<&str> = line.split(' ').collect();
-        let bytes = text::parse_hex(fields[0]).expect("hexadecimal").into_boxed_slice();
+        let (bytes, rest) = fields.split_at(fields_of_bytes);
+        let bytes: Vec<Box<[u8]>> = bytes
+            .iter()
+            .map(|field| text::parse_hex(field).expect("hexadecimal").into_boxed_slice())
+            .collect();
         let values = |field: &str| text::parse_numbers(field).expect("numbers");
-        let mut variables = Lent::new(&values(fields[1]), 0xABCD_0123);
-        let mut cells = Lent::new(&values(fields[2]), 0x0123_ABCD);
-        let answer = compare::run_block(&bytes, variables.part(), cells.part());
+        let mut variables = Lent::new(&values(rest[0]), 0xABCD_0123);
+        let mut cells = Lent::new(&values(rest[1]), 0x0123_ABCD);
+        let answer = run(&bytes, variables.part(), cells.part());
         assert_eq!((answer.size, answer.list_price), (0, 0));
         let said = format!(
             "{} {} {} {}",
@@ -23,6 +34,20 @@ fn run_block() {
             text::numbers(variables.contents()),
             text::numbers(cells.contents())
         );
-        assert_eq!(said, fields[3..].join(" "), "line {}", number + 1);
+        assert_eq!(said, rest[2..].join(" "), "{name}, line {}", number + 1);
     }
+}
+
+#[test]
+fn run_block() {
+    compare_lines("run-block.txt", 172, 1, |bytes, variables, cells| {
+        compare::run_block(&bytes[0], variables, cells)
+    });
+}
+
+#[test]
+fn run_list() {
+    compare_lines("run-list.txt", 854, 2, |bytes, variables, cells| {
+        compare::run_list(&bytes[0], &bytes[1], variables, cells)
+    });
 }

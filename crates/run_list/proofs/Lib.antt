@@ -1,0 +1,5 @@
+pub mod Turns
+pub mod Loads
+pub mod After
+pub mod Again
+pub mod Calls
