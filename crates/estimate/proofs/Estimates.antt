@@ -12,14 +12,13 @@ use borrow.Author.Tests.{lt-ltb, le-ltb, ne-eqb}
 use Rattle.basics.specs.Choice.{pick}
 use Rattle.basics.specs.Lists.{any, all, sum}
 use Rattle.basics.specs.Sets.{has}
-use Rattle.basics.proofs.Tests.{and-left, and-right, below-or-not}
-use Rattle.basics.proofs.Parts.{all-at}
+use Rattle.basics.proofs.Tests.{below-or-not}
 use Rattle.meaning.specs.declared.Place.{Place}
 use Rattle.meaning.specs.declared.Place.the-variants.{Variable, Cell}
 use Rattle.meaning.specs.declared.Operand.{Operand}
 use Rattle.meaning.specs.declared.Operand.the-variants.{Nothing, Constant, Held}
 use Rattle.meaning.specs.declared.Statement.{Statement}
-use Rattle.meaning.specs.Block.{blank, statement, isCopy, inRow, operandsInRow, Position, left, right, operand, positions, cellPlace, cellOperand}
+use Rattle.meaning.specs.Block.{statement, isCopy, inRow, operandsInRow, Position, left, right, operand, positions, cellPlace, cellOperand}
 use Rattle.meaning.specs.Pairs.{Pair, pair, isAdmitted, partner}
 use Rattle.meaning.specs.Estimate.{bothDefined, definitions, isPair, constants, operandsCost, positionCost, readsTogether, destinationCost, gain, loss}
 use Rattle.theorems.specs.Units.{Every}
@@ -28,6 +27,7 @@ use Rattle.theorems.proofs.Chains.{partner-related}
 use Rattle.theorems.proofs.Pairs.{Admitted}
 use Rattle.codes.specs.Codes.{placeCode, operandCode, codesInRow, isCellCode, isConstantCode, cellCode}
 use Rattle.codes.specs.Fitting.{placeFits, operandFits, statementFits}
+use Rattle.codes.proofs.Fits.{destination-fits, left-fits, right-fits}
 use Rattle.codes.proofs.Places.{row-codes, cell-code}
 use Rattle.codes.proofs.Operands.{operands-row, cells-of-operand, constant-codes}
 use Rattle.facts.specs.Facts.{factAt}
@@ -36,6 +36,7 @@ use Rattle.reach.specs.Tied.{numberOf, Defined}
 use Rattle.pairs.specs.Admission.{tablesOf, admittedIn}
 use Rattle.pairs.proofs.Tables.{lefts-below, rights-below, partners-tied}
 use Rattle.pairs.proofs.Leading.{admitted-tied}
+use Rattle.pairs.proofs.May.{kind-small}
 use Rattle.estimate.specs.Costs.{codesCost, positionLoss, areRead, destinationLoss, rightLoss, lossOf, gainOf, priced}
 use Rattle.estimate.proofs.Definitions.{Defines, defines-below, definition-defines, operandsColumn, definitionsColumn, definitionAt, operands-at, definitions-at}
 use Rattle.estimate.proofs.Readers.{are-read}
@@ -50,10 +51,6 @@ copy-sort : (operation kind : ℕ) → kind ≤ 1 → ltb (2 * operation + kind)
 copy-sort zero kind h = lt-ltb (2 * 0 + kind) 2 (omega arith)
 copy-sort (suc operation) kind h =
     le-ltb (2 * suc operation + kind) 2 (omega arith) ∙ sym (ne-eqb (suc operation) 0 (λ e. omega arith))
-
-kind-small : (p : Place) → cellPlace p ≤ 1
-kind-small (Variable v) = omega arith
-kind-small (Cell a i) = omega arith
 
 operand-small : (o : Operand) → cellOperand o ≤ 1
 operand-small Nothing = omega arith
@@ -81,17 +78,9 @@ kinds (Variable v) fits row read = rw (cell-code (Variable v) fits)
 kinds (Cell a i) fits row read = rw (cell-code (Cell a i) fits)
 
 module _ (ss : List Statement) (facts : List ℕ) (few : length ss ≤ 64) (fit : all statementFits ss ≡ true) (stated : Stated ss facts) (defined : Defined ss facts) where
-  fits-at : (s : ℕ) → s < length ss → statementFits (statement ss s) ≡ true
-  fits-at s below = all-at statementFits ss s blank fit below
-
-  destination-fits : (s : ℕ) → s < length ss → placeFits (statement ss s .destination) ≡ true
-  destination-fits s below = and-left (placeFits (statement ss s .destination)) _ (fits-at s below)
-
   operand-fits : (position : Position) (s : ℕ) → s < length ss → operandFits (operand position (statement ss s)) ≡ true
-  operand-fits left s below =
-      and-left (operandFits (statement ss s .left)) _ (and-right (placeFits (statement ss s .destination)) _ (fits-at s below))
-  operand-fits right s below =
-      and-right (operandFits (statement ss s .left)) _ (and-right (placeFits (statement ss s .destination)) _ (fits-at s below))
+  operand-fits left s below = left-fits ss fit s below
+  operand-fits right s below = right-fits ss fit s below
 
   -- a price is at most 4
   pub all-priced : priced facts
@@ -144,9 +133,9 @@ module _ (ss : List Statement) (facts : List ℕ) (few : length ss ≤ 64) (fit 
           ap₂ (λ (d e : ℕ). pick (isCellCode d) (pick (codesInRow d e) 1 4) (pick (areRead facts next p) 0 2))
           (stated .destinations (p .left) low) (stated .destinations (p .right) high)
           ∙ ap₂ (λ (row read : Bool). pick (isCellCode (placeCode (statement ss (p .left) .destination))) (pick row 1 4) (pick read 0 2))
-          (sym (row-codes (statement ss (p .left) .destination) (statement ss (p .right) .destination) (destination-fits (p .left) low) (destination-fits (p .right) high)))
+          (sym (row-codes (statement ss (p .left) .destination) (statement ss (p .right) .destination) (destination-fits ss fit (p .left) low) (destination-fits ss fit (p .right) high)))
           (are-read ss facts few defined pairs next in-range next-number admitted-in p low high)
-          ∙ kinds (statement ss (p .left) .destination) (destination-fits (p .left) low)
+          ∙ kinds (statement ss (p .left) .destination) (destination-fits ss fit (p .left) low)
           (inRow (statement ss (p .left) .destination) (statement ss (p .right) .destination)) (any (readsTogether ss p) pairs)
 
       table-loss : lossOf facts next p ≡ loss ss pairs p

@@ -1,7 +1,7 @@
 -- An admitted pair reads what a pair defines: the walk over the readers of its left that have a partner finds one where there is one.
 use mathlib.Core.Path.{_≡_, refl, sym, ap, ap₂, _∙_}
 use mathlib.Core.Logic.{_⊎_, inl, inr}
-use mathlib.Core.Bool.{Bool, true, false, _&&_, _||_, not, false≢true}
+use mathlib.Core.Bool.{Bool, true, false, _&&_, _||_, not, false≢true, and-false}
 use mathlib.Core.Option.{Option, none, some}
 use mathlib.Core.List.{List, [], _∷_}
 use Prim.Native.Nat.{ℕ, _+_, _≤_, _<_}
@@ -24,17 +24,9 @@ use Rattle.rows.proofs.Walks.{walk-counts}
 use Rattle.facts.specs.Facts.{factAt}
 use Rattle.reach.specs.Tied.{numberOf, Defined}
 use Rattle.pairs.specs.Admission.{admittedIn}
+use Rattle.pairs.proofs.Leading.{eqb-back}
 use Rattle.estimate.specs.Costs.{readsAt, readsPair, areRead}
 use Rattle.estimate.proofs.Definitions.{definitionsColumn, definitionAt, definitions-at}
-
--- the order in which two numbers are compared does not matter
-eqb-back : (a b : ℕ) → eqb a b ≡ eqb b a
-eqb-back a b =
-    same-test (eqb a b) (eqb b a) (λ e. eq-eqb b a (sym (eqb-true a b e))) (λ e. eq-eqb a b (sym (eqb-true b a e)))
-
-and-false : (a : Bool) → a && false ≡ false
-and-false true = refl
-and-false false = refl
 
 -- Some member of a set passes a test: what a walk over the set finds.
 module _ (member test : ℕ → Bool) where

@@ -1,6 +1,6 @@
 -- "Extension" over the tables: each visit admits to the tables what it admits to the list, and all of them do.
 use mathlib.Core.Path.{_≡_, refl, sym, ap, ap₂, _∙_}
-use mathlib.Core.Bool.{Bool, true, false, _&&_}
+use mathlib.Core.Bool.{Bool, true, false, _&&_, and-false}
 use mathlib.Core.Option.{Option, none, some}
 use mathlib.Core.List.{List}
 use Prim.Native.Nat.{ℕ, zero, suc, _+_, _≤_, _<_}
@@ -33,10 +33,6 @@ use Rattle.extend.proofs.Readers.{Tracks, none-left, none-right, tracks
 chosen : (a b : Bool) (more now : List Pair) (t : Tables) → a ≡ b → t ≡ tablesOf more → pick a t (tablesOf now) ≡ tablesOf (pick b more now)
 chosen a true more now t e f = rw e f
 chosen a false more now t e f = rw e
-
-and-false : (a : Bool) → a && false ≡ false
-and-false true = refl
-and-false false = refl
 
 -- the best, admitted to the tables and to the list
 admits-best : (ss : List Statement) (few : length ss ≤ 64) (pairs : List Pair) (f : Found) (best : Option Pair) → Tracks ss pairs f best

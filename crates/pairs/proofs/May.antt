@@ -28,7 +28,7 @@ use Rattle.pairs.proofs.Tables.{tables-size, rights-tied, partners-tied
 use Rattle.pairs.proofs.Leading.{left-free, leads-chain}
 
 -- a sort is the operation and the kind of destination in one number
-kind-small : (p : Place) → cellPlace p ≤ 1
+pub kind-small : (p : Place) → cellPlace p ≤ 1
 kind-small (Variable v) = omega arith
 kind-small (Cell a i) = omega arith
 
