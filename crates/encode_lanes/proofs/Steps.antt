@@ -10,10 +10,11 @@ use Rattle.encode.specs.declared.Written.{Written}
 use Rattle.encode.specs.Records.{listing, recordBehind}
 use Rattle.encode_lanes.specs.Lanes.{laneAt, putFront, putOperands, widthOf, cellsOf, gatherTwo, gatherFour, writeG}
 
-picked {ℓ} : {A : Type ℓ} {z : A} (test : Bool) (x y : A) → test ≡ true → z ≡ x → z ≡ pick test x y
+-- the answer that a test picks
+pub picked {ℓ} : {A : Type ℓ} {z : A} (test : Bool) (x y : A) → test ≡ true → z ≡ x → z ≡ pick test x y
 picked test x y e h = rw (e, h)
 
-left-out {ℓ} : {A : Type ℓ} {z : A} (test : Bool) (x y : A) → test ≡ false → z ≡ y → z ≡ pick test x y
+pub left-out {ℓ} : {A : Type ℓ} {z : A} (test : Bool) (x y : A) → test ≡ false → z ≡ y → z ≡ pick test x y
 left-out test x y e h = rw (e, h)
 
 -- one number found before, or two

@@ -1,3 +1,4 @@
 pub mod Tuples
 pub mod Standing
 pub mod Fetching
+pub mod Steps
