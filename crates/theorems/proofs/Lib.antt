@@ -44,3 +44,4 @@ pub mod Outcome
 pub mod LentFrames
 pub mod Faithful
 pub mod Demand
+pub mod Alike
