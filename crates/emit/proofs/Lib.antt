@@ -5,3 +5,4 @@ pub mod Singles
 pub mod Units
 pub mod Prices
 pub mod End
+pub mod Steps
