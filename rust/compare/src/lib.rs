@@ -1,125 +1,17 @@
-//! The proved library's calls, safe to call from Rust: slices go as pointer and length, and what
-//! comes back in one number is taken apart.
+//! The proved library's calls, safe to call from Rust. Where the machine is of the library's kind they
+//! are linked; elsewhere, and there on demand, they go through the driver, a program of its own.
 
-mod exported {
-    extern "C" {
-        pub fn nephinor_read_block(
-            bytes: *const u8,
-            bytes_length: usize,
-            numbers: *mut u32,
-            numbers_length: usize,
-        ) -> u64;
+mod answer;
+pub mod driven;
+#[cfg(linked)]
+pub mod linked;
+pub mod programs;
 
-        pub fn nephinor_write_block(
-            numbers: *const u32,
-            numbers_length: usize,
-            room: *mut u8,
-            room_length: usize,
-        ) -> u64;
-
-        pub fn nephinor_run_block(
-            bytes: *const u8,
-            bytes_length: usize,
-            variables: *mut u32,
-            variables_length: usize,
-            cells: *mut u32,
-            cells_length: usize,
-        ) -> u64;
-
-        pub fn nephinor_run_list(
-            block: *const u8,
-            block_length: usize,
-            list: *const u8,
-            list_length: usize,
-            variables: *mut u32,
-            variables_length: usize,
-            cells: *mut u32,
-            cells_length: usize,
-        ) -> u64;
-    }
-}
-
-/// What every call returns: the status, a size, and up to two prices, zeros where there is none.
-#[derive(Clone, Copy, Debug, PartialEq, Eq)]
-pub struct Answer {
-    pub status: u8,
-    pub size: u16,
-    pub price: u16,
-    pub list_price: u16,
-}
-
-impl Answer {
-    /// Bits 0 to 7, 8 to 23, 24 to 39 and 40 to 55; the bits above them are never set.
-    fn unpacked(number: u64) -> Answer {
-        assert_eq!(number >> 56, 0, "bits above the answer are set: {number:#x}");
-        Answer {
-            status: number as u8,
-            size: (number >> 8) as u16,
-            price: (number >> 24) as u16,
-            list_price: (number >> 40) as u16,
-        }
-    }
-}
+pub use answer::Answer;
+#[cfg(not(linked))]
+pub use driven::{make_list, read_block, run_block, run_list, write_block};
+#[cfg(linked)]
+pub use linked::{make_list, read_block, run_block, run_list, write_block};
 
 /// How many numbers a block in memory takes as a table.
 pub const TABLE: usize = 652;
-
-/// Reads a block into a table of numbers: status, and how many numbers that takes.
-pub fn read_block(bytes: &[u8], numbers: &mut [u32]) -> Answer {
-    // SAFETY: each pointer stands with the length of its own slice, and the one that is written is
-    // borrowed for the call alone. The library keeps none of them.
-    Answer::unpacked(unsafe {
-        exported::nephinor_read_block(
-            bytes.as_ptr(),
-            bytes.len(),
-            numbers.as_mut_ptr(),
-            numbers.len(),
-        )
-    })
-}
-
-/// Writes the block that a table of numbers says: status, and how many bytes that takes.
-pub fn write_block(numbers: &[u32], room: &mut [u8]) -> Answer {
-    // SAFETY: as for `read_block`.
-    Answer::unpacked(unsafe {
-        exported::nephinor_write_block(
-            numbers.as_ptr(),
-            numbers.len(),
-            room.as_mut_ptr(),
-            room.len(),
-        )
-    })
-}
-
-/// Runs a block on what is lent: status and price paid.
-pub fn run_block(bytes: &[u8], variables: &mut [u32], cells: &mut [u32]) -> Answer {
-    // SAFETY: each pointer stands with the length of its own slice, and the two that are written
-    // are borrowed for the call alone. The library keeps none of them.
-    Answer::unpacked(unsafe {
-        exported::nephinor_run_block(
-            bytes.as_ptr(),
-            bytes.len(),
-            variables.as_mut_ptr(),
-            variables.len(),
-            cells.as_mut_ptr(),
-            cells.len(),
-        )
-    })
-}
-
-/// Runs a list beside its block on what is lent: status and price paid.
-pub fn run_list(block: &[u8], list: &[u8], variables: &mut [u32], cells: &mut [u32]) -> Answer {
-    // SAFETY: as for `run_block`.
-    Answer::unpacked(unsafe {
-        exported::nephinor_run_list(
-            block.as_ptr(),
-            block.len(),
-            list.as_ptr(),
-            list.len(),
-            variables.as_mut_ptr(),
-            variables.len(),
-            cells.as_mut_ptr(),
-            cells.len(),
-        )
-    })
-}

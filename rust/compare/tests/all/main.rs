@@ -2,8 +2,10 @@
 //! blocks, rooms of every size around the answer's, and what a refusal leaves of what was lent.
 
 mod blocks;
+mod driver;
 mod lent;
 mod reading;
 mod running;
 mod tables;
 mod vectors;
+mod ways;
