@@ -30,6 +30,7 @@ pub record Alike (live : ℕ) (made : ListMade) (list-run block-run : Ran) : Typ
   pub list-done : list-run .status ≡ 0
   pub same-cells : list-run .contents .cells ≡ block-run .contents .cells
   pub same-live : (v : ℕ) → v < live → getD (list-run .contents .variables) v 0 ≡ getD (block-run .contents .variables) v 0
+  pub as-many : length (list-run .contents .variables) ≡ length (block-run .contents .variables)
   pub list-paid : list-run .price ≡ made .listCost
   pub block-paid : block-run .price ≡ made .blockCost
   pub at-most : made .listCost ≤ made .blockCost
@@ -90,6 +91,7 @@ alike bytes room m are made-status block-status = by (readBlock bytes) refl
           list-done = kept .list-done;
           same-cells = kept .cells;
           same-live = λ v below. kept .live v (omega (arith, stated));
+          as-many = kept .as-many;
           list-paid = kept .paid;
           block-paid = kept .block-paid;
           at-most = kept .at-most;

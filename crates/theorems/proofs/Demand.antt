@@ -53,6 +53,7 @@ pub record Kept (b : Block) (made : ListMade) (list-run block-run : Ran) : Type 
   pub block-done : block-run .status ≡ 0
   pub cells : list-run .contents .cells ≡ block-run .contents .cells
   pub live : (v : ℕ) → v < b .live → getD (list-run .contents .variables) v 0 ≡ getD (block-run .contents .variables) v 0
+  pub as-many : length (list-run .contents .variables) ≡ length (block-run .contents .variables)
   pub paid : list-run .price ≡ made .listCost
   pub block-paid : block-run .price ≡ made .blockCost
   pub at-most : made .listCost ≤ made .blockCost
@@ -75,6 +76,8 @@ kept-of bytes room b m f list-run block-run e h =
       cells = ap (λ (r : Ran). r .contents .cells) e ∙ f .outcome .cells ∙ sym (ap (λ (r : Ran). r .contents .cells) h);
       live = λ v below.
           ap (λ (r : Ran). getD (r .contents .variables) v 0) e ∙ f .outcome .live v below ∙ sym (ap (λ (r : Ran). getD (r .contents .variables) v 0) h);
+      as-many =
+          ap (λ (r : Ran). length (r .contents .variables)) e ∙ f .outcome .as-many ∙ sym (ap (λ (r : Ran). length (r .contents .variables)) h);
       paid = ap (λ (r : Ran). r .price) e;
       block-paid = ap (λ (r : Ran). r .price) h;
       at-most = f .priced .at-most;

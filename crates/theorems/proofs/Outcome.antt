@@ -6,7 +6,7 @@ use mathlib.Core.List.{List}
 use Prim.Native.Nat.{ℕ, _<_}
 use native.Mathlib.Omega.{arith}
 use lib.Dec.{ltb}
-use lib.ListN.{getD}
+use lib.ListN.{length, getD}
 use borrow.Author.Tests.{lt-ltb}
 use Rattle.basics.specs.Lists.{all, each}
 use Rattle.basics.proofs.Parts.{pick-holds}
@@ -22,15 +22,16 @@ use Rattle.theorems.specs.Units.{Units}
 use Rattle.theorems.specs.Machine.{machineAfter}
 use Rattle.theorems.proofs.Records.{constantsFit}
 use Rattle.theorems.proofs.Readable.{Readable}
-use Rattle.theorems.proofs.View.{variable-seen, cells-faithful, view-block, size-block}
+use Rattle.theorems.proofs.View.{variables-sized, variable-seen, cells-faithful, view-block, size-block}
 use Rattle.theorems.proofs.Lawful.{Lawful, packed-lawful, plain-lawful}
 use Rattle.theorems.proofs.Simulation.{looksAt, emission-runs}
 use Rattle.theorems.proofs.Mirror.{view-list, size-list, plain-runs}
 
--- every cell and every live-out variable are the same
+-- every cell and every live-out variable are the same, and there are as many variables
 pub record SameOutcome (b : Block) (one other : Contents) : Type 0 where
   pub cells : one .cells ≡ other .cells
   pub live : (v : ℕ) → v < b .live → getD (one .variables) v 0 ≡ getD (other .variables) v 0
+  pub as-many : length (one .variables) ≡ length (other .variables)
 
 -- a list that leaves memory as the statements leave it, where one looks
 module _ (b : Block) (readable : Readable b) (lent : Contents) (right : rightSize b lent ≡ true) where
@@ -43,6 +44,9 @@ module _ (b : Block) (readable : Readable b) (lent : Contents) (right : rightSiz
         live = λ v below.
             let declared : v < b .variables = omega (arith, readable .live) in
             sym (variable-seen b (runList b list lent) v declared) ∙ at (Variable v) (lt-ltb v (b .live) below) ∙ variable-seen b (runBlock b lent) v declared;
+        as-many =
+            variables-sized b (runList b list lent) (size-list b readable list lent (lawful .permitted) right)
+            ∙ sym (variables-sized b (runBlock b lent) (size-block b lent right));
       }
     where
       at : (p : Place) → looksAt (b .live) p ≡ true → view b (runList b list lent) p ≡ view b (runBlock b lent) p

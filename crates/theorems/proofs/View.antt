@@ -34,7 +34,7 @@ stored l i j n below = go (eqb i j) refl
     go false e = getD-set-other l i j n 0 λ f. eqb-false i j e (sym f)
 
 -- both parts of the right size
-variables-sized : (b : Block) (lent : Contents) → rightSize b lent ≡ true → length (lent .variables) ≡ b .variables
+pub variables-sized : (b : Block) (lent : Contents) → rightSize b lent ≡ true → length (lent .variables) ≡ b .variables
 variables-sized b lent e = eqb-true _ _ (and-left _ _ e)
 
 cells-sized : (b : Block) (lent : Contents) → rightSize b lent ≡ true → length (lent .cells) ≡ sum (b .lengths)
