@@ -1,4 +1,2 @@
-pub mod Fits
 pub mod Answers
-pub mod Scheduling
 pub mod Packing

@@ -6,13 +6,12 @@ ghost use Prim.Native.Nat.{_≤_};
 ghost use lib.ListN.{length, take, drop, replicate};
 ghost use Rattle.meaning.specs.Numbers.{done};
 ghost use Rattle.meaning.specs.Block.{declared};
-ghost use Rattle.meaning.specs.Choice.{scheduledUnits, packedList};
+ghost use Rattle.meaning.specs.Choice.{packedList};
 ghost use Rattle.meaning.specs.Calls.{listMade, makeListCall};
 ghost use Rattle.facts.specs.Facts.{statedFacts};
 ghost use Rattle.facts.specs.Tied.{Stated};
-ghost use Rattle.units.specs.Words.{InOrder};
 ghost use Rattle.choice.specs.Promises.{Legal, Holds};
-ghost use Rattle.maker.specs.Promises.{Prepared, answer};
+ghost use Rattle.maker.specs.Promises.{answer};
 use encode::Written;
 use meaning::Block;
 
@@ -46,52 +45,6 @@ fn copy_into(room: &mut [u8], out: &[u8], size: usize)
     }
 }
 
-// The units of a block in scheduled order: seed, extend, combine, schedule.
-fn schedule_units(
-    block: Block,
-    n: usize,
-    facts: &[u64],
-    numbers: &[u8],
-    writers: &[u64],
-    lefts: &[u64],
-    rights: &[u64],
-    scheduled: &mut [u64],
-) -> usize
-    requires { ⌜ (n ≡ length (declared block .statements)) × (Prepared (declared block) (now facts) (now numbers) (now writers) (now lefts) (now rights)) ⌝ }
-    requires { ⌜ now scheduled ≡ replicate 64 0 ⌝ }
-    ensures { λ r. ⌜ InOrder (scheduledUnits (declared block .statements)) (now (scheduled .exit)) r ⌝ }
-{
-    let direct = reach::dependences(block, n, numbers, writers, lefts, rights);
-    let reached = reach::reachability(&direct, n);
-    let mut order = [64u8; 64];
-    let mut next = [64u8; 64];
-    let mut waiting = [0u64; 64];
-    let mut needs = [0u64; 64];
-    let seeded = pairs::seed(
-        block,
-        n,
-        facts,
-        reached,
-        numbers,
-        writers,
-        lefts,
-        rights,
-        &mut order,
-        &mut next,
-    );
-    let admitted = extend::extend(n, facts, reached, &mut order, &mut next, seeded);
-    let all = combine::combine(
-        n,
-        reached,
-        &direct,
-        &next,
-        admitted.rights,
-        &mut waiting,
-        &mut needs,
-    );
-    schedule::schedule(n, &direct, &mut waiting, &mut needs, all, scheduled)
-}
-
 // The bytes of the packed list.
 fn write_packed(block: Block, n: usize, facts: &mut [u64], out: &mut [u8]) -> Written
     requires { ⌜ (n ≡ length (declared block .statements)) × ((Legal (declared block)) × (now facts ≡ statedFacts (block .statements) n (replicate 512 0))) ⌝ }
@@ -103,13 +56,17 @@ fn write_packed(block: Block, n: usize, facts: &mut [u64], out: &mut [u8]) -> Wr
     let mut writers = [0u64; 193];
     let mut lefts = [0u64; 193];
     let mut rights = [0u64; 193];
-    let first = facts::name_places(facts, facts::DESTINATION, n, &mut numbers, &mut writers, 0);
-    let second = facts::name_places(facts, facts::LEFT, n, &mut numbers, &mut lefts, first);
-    facts::name_places(facts, facts::RIGHT, n, &mut numbers, &mut rights, second);
-    reach::fill_definitions(facts, n, &numbers, &writers);
-    reach::fill_readers(facts, n);
     let mut scheduled = [0u64; 64];
-    let count = schedule_units(
+    phases::fill_tables(
+        block,
+        n,
+        facts,
+        &mut numbers,
+        &mut writers,
+        &mut lefts,
+        &mut rights,
+    );
+    let count = phases::schedule_units(
         block,
         n,
         facts,

@@ -31,8 +31,8 @@ use Rattle.combine.specs.Cutting.{Tables as Cut, tables as cut-tables, combined
 use Rattle.combine.proofs.Tied.{combined-waits}
 use Rattle.schedule.specs.Stages.{Stage, scheduledTables}
 use Rattle.schedule.proofs.Steps.{schedule-in-order}
-use Rattle.maker.specs.Promises.{Prepared}
-use Rattle.maker.proofs.Fits.{legal-fits}
+use Rattle.phases.specs.Prepared.{Prepared}
+use Rattle.phases.proofs.Fits.{legal-fits}
 
 zeros-long : length (replicate {A = ℕ} 64 0) ≡ 64
 zeros-long = length-replicate {A = ℕ} 64 0

@@ -1,0 +1,4 @@
+pub mod Fits
+pub mod Scheduling
+pub mod Tables
+pub mod Ordering
