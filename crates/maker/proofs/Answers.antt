@@ -1,11 +1,12 @@
 -- What is left of the call by what reading the block answers, by the price and by the room.
 use mathlib.Core.Path.{_≡_, refl, ap, sym, _∙_}
-use Prim.Native.Nat.{ℕ, _≤_, _<_}
+use Prim.Native.Nat.{ℕ, suc, _≤_, _<_, min}
 use mathlib.Core.Bool.{true}
-use mathlib.Core.List.{List, _++_}
+use mathlib.Core.List.{List, [], _∷_, _++_}
 use native.Mathlib.Omega.{arith}
-use lib.ListN.{length, take, drop}
-use borrow.Author.Tests.{le-leb, lt-leb}
+use lib.ListN.{length, getD, take, drop, replicate, length-take, length-replicate}
+use Rattle.basics.proofs.Tests.{and-both}
+use borrow.Author.Tests.{lt-ltb, le-leb, lt-leb}
 use Rattle.basics.specs.Lists.{all}
 use Rattle.meaning.specs.declared.Block.{Block as Slots}
 use Rattle.meaning.specs.Numbers.{Answer, refused, done}
@@ -68,3 +69,24 @@ module _ (b : Block) where
       → record { status = 7; size = size; blockCost = 0; listCost = 0; room = room } ≡ listMade room (done b)
   made-short out room size price h short =
       rw (lt-leb (length (listBytes (chosenList b))) (length room) (omega (arith, h .sized)), h .sized)
+
+  -- the same of a room that holds a copy of the list's bytes
+  pub made-copied : (out room after : List ℕ) (size block price : ℕ) → Holds (b .statements) (chosenList b) out size price → block ≡ blockPrice (b .statements)
+      → size ≤ length room → after ≡ take size out ++ drop size room
+      → record { status = 0; size = size; blockCost = block; listCost = price; room = after } ≡ listMade room (done b)
+  made-copied out room after size block price h e enough copied =
+      ap (λ (now : List ℕ). record { status = 0; size = size; blockCost = block; listCost = price; room = now }) copied
+      ∙ made-whole out room size block price h e enough
+
+-- as many statements as the slots hold of those that are counted
+pub declared-count : (block : Slots) (n : ℕ) → n ≡ min (block .count) 64 → length (block .statements) ≡ 64 → n ≡ length (declared block .statements)
+declared-count block n e slots = omega (arith, length-take (block .count) (block .statements))
+
+-- the buffer holds every list
+pub buffer-long : length (replicate {A = ℕ} 4096 0) ≡ 4096
+buffer-long = length-replicate {A = ℕ} 4096 0
+
+-- what is lent as bytes are bytes
+pub are-bytes : (bytes : List ℕ) → ((i : ℕ) → getD bytes i 0 < 256) → all isByte bytes ≡ true
+are-bytes [] known = refl
+are-bytes (byte ∷ bytes) known = and-both (isByte byte) (all isByte bytes) (lt-ltb byte 256 (known 0)) (are-bytes bytes (λ i. known (suc i)))

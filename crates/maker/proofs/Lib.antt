@@ -1,2 +1,3 @@
 pub mod Answers
 pub mod Packing
+pub mod Copying
