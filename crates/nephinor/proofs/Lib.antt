@@ -1,3 +1,4 @@
 pub mod Unpacked
 pub mod Answers
 pub mod Tables
+pub mod Making

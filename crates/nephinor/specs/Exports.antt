@@ -5,7 +5,7 @@ use lib.Dec.{eqb, leb}
 use lib.ListN.{length}
 use Rattle.basics.specs.Choice.{pick}
 use Rattle.meaning.specs.Machine.{Contents}
-use Rattle.meaning.specs.Calls.{BlockRead, BlockWritten, Ran, inRoom, writeBlockCall}
+use Rattle.meaning.specs.Calls.{BlockRead, BlockWritten, ListMade, Ran, inRoom, writeBlockCall}
 use Rattle.table.specs.Table.{tableOf}
 use Rattle.table.specs.Said.{blockSaid}
 use Rattle.nephinor.specs.Packed.{packed}
@@ -43,3 +43,11 @@ writtenPacked w = record { number = packed (w .status) (w .size) 0 0; room = w .
 abbrev pub tableWritten : List ℕ → List ℕ → TableWritten
 tableWritten table room =
     pick (leb 652 (length table)) (writtenPacked (writeBlockCall (blockSaid table) room)) (record { number = packed 2 0 0 0; room = room })
+
+-- Making a list: the status, the list's length, the block's price and the list's.
+pub record MadePacked : Type 0 where
+  pub number : ℕ
+  pub room : List ℕ
+
+abbrev pub madePacked : ListMade → MadePacked
+madePacked m = record { number = packed (m .status) (m .size) (m .blockCost) (m .listCost); room = m .room }

@@ -3,8 +3,8 @@
 
 ghost use mathlib.Core.Path.{_≡_};
 ghost use Rattle.memory.specs.Lent.{lent};
-ghost use Rattle.meaning.specs.Calls.{readBlockCall, runBlockCall, runListCall};
-ghost use Rattle.nephinor.specs.Exports.{ranPacked, tableRead, tableWritten};
+ghost use Rattle.meaning.specs.Calls.{readBlockCall, runBlockCall, runListCall, makeListCall};
+ghost use Rattle.nephinor.specs.Exports.{ranPacked, tableRead, tableWritten, madePacked};
 
 // A block's bytes read into a table of 652 numbers (table/specs/Table.antt).
 #[no_mangle]
@@ -35,6 +35,19 @@ pub extern "C" fn nephinor_write_block(numbers: &[u32], room: &mut [u8]) -> u64
     let block = table::taken::take_block(numbers);
     let written = crate::write_block(block, room);
     crate::packed::pack(written.status, written.size, 0, 0)
+}
+
+#[no_mangle]
+pub extern "C" fn nephinor_make_list(bytes: &[u8], room: &mut [u8]) -> u64
+    ensures { λ r. ⌜ record { number = r; room = now (room .exit) } ≡ madePacked (makeListCall (now (bytes .entry)) (now (room .entry))) ⌝ }
+{
+    let made = crate::make_list(bytes, room);
+    crate::packed::pack(
+        made.status,
+        made.size,
+        made.block as usize,
+        made.list as usize,
+    )
 }
 
 #[no_mangle]

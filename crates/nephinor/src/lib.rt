@@ -6,7 +6,8 @@ mod packed;
 
 use meaning::Block;
 ghost use mathlib.Core.Path.{_≡_};
-ghost use Rattle.meaning.specs.Calls.{readBlockCall, writeBlockCall, runBlockCall, runListCall};
+ghost use Rattle.meaning.specs.Calls.{readBlockCall, writeBlockCall, runBlockCall, runListCall, makeListCall};
+ghost use Rattle.maker.specs.Promises.{answer as made};
 ghost use Rattle.memory.specs.Lent.{lent};
 ghost use Rattle.reader.specs.Answers.{answer as read};
 ghost use Rattle.run_block.specs.Answers.{answer as ran};
@@ -23,6 +24,14 @@ pub fn write_block(block: Block, room: &mut [u8]) -> writer::BlockWritten
     ensures { λ r. ⌜ record { status = r .status; size = r .size; room = now (room .exit) } ≡ writeBlockCall block (now (room .entry)) ⌝ }
 {
     writer::write_block(block, room)
+}
+
+// Making a list: the number, "list length, block price, list price", and the list in the room's first
+// bytes.
+pub fn make_list(bytes: &[u8], room: &mut [u8]) -> maker::Made
+    ensures { λ r. ⌜ made r (now (room .exit)) ≡ makeListCall (now (bytes .entry)) (now (room .entry)) ⌝ }
+{
+    maker::make_list(bytes, room)
 }
 
 // Running a block: the number, the price paid, and what was lent as the block leaves it.
