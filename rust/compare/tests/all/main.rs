@@ -3,7 +3,6 @@
 
 mod driver;
 mod generated;
-mod making;
 mod rooms;
 mod vectors;
 mod ways;

@@ -4,5 +4,3 @@
 #[cfg(target_arch = "x86_64")]
 mod calls;
 mod header;
-#[cfg(target_arch = "x86_64")]
-mod making;
