@@ -1,6 +1,6 @@
-//! Ways to the proved library, which `rt staticlib nephinor` writes at the root of the repository: it
-//! is linked where the target is x86-64, as the library is; and the driver, a program that calls it,
-//! is built on every machine, by the compiler and the linker of the Rattle kit.
+//! Ways to the proved library, which `rt staticlib nephinor` writes at the root of the repository: by
+//! `nephinor`, which links it where the target is x86-64, as the library is; and by the driver, a
+//! program that calls it, which is built on every machine, by the compiler and the linker of the kit.
 
 use std::env;
 use std::path::{Path, PathBuf};
@@ -17,8 +17,7 @@ fn main() {
 
 fn build() -> Result<(), String> {
     let here = Path::new(env!("CARGO_MANIFEST_DIR"));
-    let folder = here.join("../../target/staticlib");
-    let archive = folder.join("libnephinor.a");
+    let archive = here.join("../../target/staticlib/libnephinor.a");
     println!("cargo::rerun-if-changed={}", archive.display());
     if !archive.is_file() {
         let name = archive.display();
@@ -28,8 +27,6 @@ fn build() -> Result<(), String> {
     println!("cargo::rustc-check-cfg=cfg(linked)");
     if env::var("CARGO_CFG_TARGET_ARCH").as_deref() == Ok("x86_64") {
         println!("cargo::rustc-cfg=linked");
-        println!("cargo::rustc-link-search=native={}", folder.display());
-        println!("cargo::rustc-link-lib=static=nephinor");
     }
 
     let kit = Kit::found()?;

@@ -5,7 +5,8 @@ use std::cell::RefCell;
 use std::io::{BufReader, Read, Write};
 use std::process::{Child, ChildStdout, Stdio};
 
-use crate::{programs, Answer};
+use crate::programs;
+use nephinor::calls::Answer;
 
 /// The driver, and one whose library writes where it may not.
 pub const DRIVER_PROGRAM: &str = env!("DRIVER");

@@ -1,11 +1,10 @@
 //! The proved library and the second program, side by side: the vectors, generated and damaged
 //! blocks, rooms of every size around the answer's, and what a refusal leaves of what was lent.
 
-mod blocks;
 mod driver;
-mod lent;
-mod reading;
-mod running;
-mod tables;
+mod generated;
+mod rooms;
 mod vectors;
 mod ways;
+#[cfg(linked)]
+mod wrapper;

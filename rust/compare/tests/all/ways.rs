@@ -1,7 +1,8 @@
 //! The two ways to the library, linked and through the driver, on every line of the vectors: what one
 //! returns and leaves, so does the other. Where nothing can be linked, both are the driver.
 
-use compare::{driven, Answer, TABLE};
+use compare::driven;
+use compare::library::{self, Answer, TABLE};
 use second::calls::read_block;
 use second::random::Random;
 use second::text;
@@ -30,12 +31,12 @@ fn ways_agree() {
             let bytes = fields.next().expect("a line has a block").expect("hexadecimal");
             let numbers = both_ways(
                 &random.contents(TABLE),
-                |numbers| compare::read_block(&bytes, numbers),
+                |numbers| library::read_block(&bytes, numbers),
                 |numbers| driven::read_block(&bytes, numbers),
             );
             both_ways(
                 &vec![0xA5; bytes.len()],
-                |room| compare::write_block(&numbers, room),
+                |room| library::write_block(&numbers, room),
                 |room| driven::write_block(&numbers, room),
             );
             let (_, block) = read_block(&bytes);
@@ -43,14 +44,14 @@ fn ways_agree() {
             let lent = (variables, random.contents(block.cell_count()));
             both_ways(
                 &lent,
-                |(variables, cells)| compare::run_block(&bytes, variables, cells),
+                |(variables, cells)| library::run_block(&bytes, variables, cells),
                 |(variables, cells)| driven::run_block(&bytes, variables, cells),
             );
             if name == "run-list.txt" {
                 let list = fields.next().expect("and a list").expect("hexadecimal");
                 both_ways(
                     &lent,
-                    |(variables, cells)| compare::run_list(&bytes, &list, variables, cells),
+                    |(variables, cells)| library::run_list(&bytes, &list, variables, cells),
                     |(variables, cells)| driven::run_list(&bytes, &list, variables, cells),
                 );
             }

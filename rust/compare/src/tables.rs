@@ -1,7 +1,7 @@
 //! A block as a table of 652 numbers: variables, live out, arrays, count, the 8 lengths, then for each
 //! of the 64 statements its operation and three numbers each for destination, left and right.
 
-use compare::TABLE;
+use crate::library::TABLE;
 use second::block::{Block, Operand, Place, Statement};
 use second::random::Random;
 
