@@ -5,6 +5,7 @@ mod cases;
 mod difference;
 pub mod driven;
 mod lent;
+mod making;
 pub mod programs;
 mod reading;
 mod running;
@@ -14,6 +15,7 @@ mod writing;
 pub use cases::{case, compare, Case, Seen, KINDS};
 pub use difference::Difference;
 pub use lent::{Lent, Manner};
+pub use making::make_list;
 pub use reading::{both_ways, read_block};
 pub use running::{run_block, run_list};
 pub use tables::table_of;
@@ -39,6 +41,7 @@ pub type Check = fn(Manner, &mut Random, &[u8]) -> Result<u8, Difference>;
 pub const CALLS: &[(&str, Check)] = &[
     ("read_block", reading::check),
     ("write_block", writing::check),
+    ("make_list", making::check),
     ("run_block", running::check_block),
     ("run_list", running::check_list),
 ];

@@ -56,6 +56,7 @@ fn main() -> ExitCode {
             return ExitCode::FAILURE;
         }
         let measured = [
+            ("lists made", making(&work, rounds)),
             ("blocks run", running_blocks(&work, rounds)),
             ("lists run", running_lists(&work, rounds)),
         ];
@@ -119,6 +120,22 @@ fn work(block: &Block) -> Work {
         variables: random.contents(usize::from(block.variables)),
         cells: random.contents(block.cell_count()),
     }
+}
+
+fn making(work: &[Work], rounds: usize) -> String {
+    let mut rooms = [[0; nephinor::LIST_ROOM]; 2];
+    let [one, other] = &mut rooms;
+    let library = || {
+        for w in work {
+            black_box(calls::make_list(&w.block, one));
+        }
+    };
+    let second = || {
+        for w in work {
+            black_box(second_calls::make_list(&w.block, other));
+        }
+    };
+    measured(Box::new(library), Box::new(second), rounds)
 }
 
 fn running_blocks(work: &[Work], rounds: usize) -> String {

@@ -3,6 +3,7 @@
 
 mod driver;
 mod generated;
+mod making;
 mod rooms;
 mod vectors;
 mod ways;

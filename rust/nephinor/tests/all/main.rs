@@ -4,3 +4,5 @@
 #[cfg(target_arch = "x86_64")]
 mod calls;
 mod header;
+#[cfg(target_arch = "x86_64")]
+mod making;
