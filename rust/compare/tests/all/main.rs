@@ -3,5 +3,6 @@
 
 mod blocks;
 mod lent;
+mod programs;
 mod running;
 mod vectors;
