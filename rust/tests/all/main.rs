@@ -11,6 +11,7 @@ mod promises;
 mod reader_refusals;
 mod round_trips;
 mod running_refusals;
+mod samples;
 mod vectors;
 mod worked;
 mod writer_refusals;

@@ -4,6 +4,7 @@
 mod driver;
 mod generated;
 mod making;
+mod programs;
 mod rooms;
 mod vectors;
 mod ways;

@@ -1,0 +1,27 @@
+-- `letter` meets its contract: its test is the definition's.
+use borrow.Author.Tests.{lt-ltb, le-ltb}
+use borrow.Author.Needs.{needs}
+use Rattle.text.proofs.letter.Statement.{statement}
+use Rattle.text.proofs.letter.Tie as tie
+
+cast-result : tie.Need-cast-result
+cast-result c = search needs
+
+add-result : tie.Need-add-result
+add-result c = search needs
+
+returns : tie.Need-returns
+returns c = rw (lt-ltb (c .before .args .digit) 10 (c .if1 .taken))
+
+cast-result-2 : tie.Need-cast-result-2
+cast-result-2 c = search needs
+
+add-result-2 : tie.Need-add-result-2
+add-result-2 c = search needs
+
+returns-2 : tie.Need-returns-2
+returns-2 c = rw (le-ltb (c .before .args .digit) 10 (c .if1 .left))
+
+pub letter-spec : {M : Type 1} → statement M
+letter-spec =
+    tie.close (tie.spec cast-result add-result returns cast-result-2 add-result-2 returns-2)

@@ -1,0 +1,91 @@
+//! The proved list program beside the second program: the sample blocks, input that is empty, and
+//! input around 4,096 bytes. What is refused also has its sentence on standard error.
+
+use second::text;
+use std::io::Write;
+use std::path::{Path, PathBuf};
+use std::process::{Command, Output, Stdio};
+
+fn root() -> PathBuf {
+    Path::new(env!("CARGO_MANIFEST_DIR")).join("../..")
+}
+
+/// What the program that `rt check` has built prints for an input.
+fn list(input: &[u8]) -> Output {
+    let program = root().join("target/bin/list");
+    assert!(
+        program.is_file(),
+        "{} is missing: run `rt check list` at the root of the repository first",
+        program.display()
+    );
+    let mut child = Command::new(program)
+        .stdin(Stdio::piped())
+        .stdout(Stdio::piped())
+        .stderr(Stdio::piped())
+        .spawn()
+        .expect("the program starts");
+    // The program stops reading after 4,097 bytes, and then this write is refused, which is no fault.
+    let _ = child.stdin.take().expect("piped").write_all(input);
+    child.wait_with_output().expect("the program ends")
+}
+
+/// Standard output is the second program's; standard error is what is expected.
+fn expect(input: &[u8], sentence: &str) {
+    let output = list(input);
+    assert_eq!(String::from_utf8_lossy(&output.stdout), text::list_lines(input));
+    assert_eq!(String::from_utf8_lossy(&output.stderr), sentence);
+    assert_eq!(output.status.code(), Some(0));
+}
+
+const OTHER_VERSION: &str = "The first byte of the block, its version, is not 1.\n";
+const OTHER_LENGTH: &str =
+    "The block has under 7 bytes, or states a length that is not the number \
+     of bytes given.\n";
+const OVER_LIMIT: &str =
+    "A count or an array's length is over its limit, an array has no cells, or \
+     more variables are live out than there are.\n";
+const BROKEN_RECORD: &str =
+    "The bytes end early or some are left over, or in a record the length, \
+     the operation, a kind or the number of operands is wrong, or the \
+     destination is a constant.\n";
+const NOT_DECLARED: &str =
+    "A statement names a variable, an array or an index that the block does \
+     not declare.\n";
+const TOO_MANY_BYTES: &str = "The input has over 4096 bytes, which no block has.\n";
+const USAGE: &str =
+    "usage: list < BLOCK\nBLOCK is a file with the bytes of one block; the list that \
+     is made for it is printed in hexadecimal.\n";
+
+#[test]
+fn samples() {
+    let mut count = 0;
+    for entry in std::fs::read_dir(root().join("samples")).expect("the folder") {
+        let path = entry.expect("an entry").path();
+        if path.extension().is_some_and(|extension| extension == "bin") {
+            expect(&std::fs::read(&path).expect("a file"), "");
+            count += 1;
+        }
+    }
+    assert_eq!(count, 14);
+}
+
+#[test]
+fn nothing_given() {
+    expect(&[], &format!("{OTHER_LENGTH}{USAGE}"));
+}
+
+#[test]
+fn around_the_most_bytes() {
+    expect(&[9; 4096], OTHER_VERSION);
+    expect(&[1; 4096], OTHER_LENGTH);
+    expect(&[9; 4097], TOO_MANY_BYTES);
+    expect(&[1; 4097], TOO_MANY_BYTES);
+    expect(&[1; 1_000_000], TOO_MANY_BYTES);
+}
+
+#[test]
+fn refused() {
+    expect(&[1, 0, 7, 33, 0, 0, 0], OVER_LIMIT);
+    expect(&[1, 0, 8, 0, 0, 0, 0, 0], BROKEN_RECORD);
+    expect(&[1, 0, 13, 1, 1, 0, 1, 5, 0, 1, 0, 1, 1], NOT_DECLARED);
+}
