@@ -27,8 +27,7 @@ u64 nephinor_read_block(const byte *bytes, u64, u32 *numbers, u64);
 u64 nephinor_write_block(const u32 *numbers, u64, byte *room, u64);
 u64 nephinor_run_block(const byte *bytes, u64, u32 *variables, u64, u32 *cells, u64);
 u64 nephinor_run_list(const byte *block, u64, const byte *list, u64, u32 *variables, u64, u32 *cells, u64);
-// Weak until the library exports it, so that a library without it links: then its address is 0.
-__attribute__((weak)) u64 nephinor_make_list(const byte *bytes, u64, byte *room, u64);
+u64 nephinor_make_list(const byte *bytes, u64, byte *room, u64);
 
 enum { SLICES = 4, HEADER = 4 * (1 + SLICES), LARGEST = 1 << 17, SPACE = 1 << 20, BORDER = 64 };
 
@@ -96,7 +95,6 @@ static u64 call(u32 number, byte *const *start, const u32 *length) {
         return nephinor_run_list(start[0], length[0], start[1], length[1], (u32 *)start[2], length[2],
                                  (u32 *)start[3], length[3]);
     default:
-        if (!nephinor_make_list) fail("the library has no nephinor_make_list");
         return nephinor_make_list(start[0], length[0], start[1], length[1]);
     }
 }

@@ -1,37 +1,17 @@
 //! The proved list program beside the second program: the sample blocks, input that is empty, and
 //! input around 4,096 bytes. What is refused also has its sentence on standard error.
 
+use compare::programs;
 use second::text;
-use std::io::Write;
 use std::path::{Path, PathBuf};
-use std::process::{Command, Output, Stdio};
 
 fn root() -> PathBuf {
     Path::new(env!("CARGO_MANIFEST_DIR")).join("../..")
 }
 
-/// What the program that `rt check` has built prints for an input.
-fn list(input: &[u8]) -> Output {
-    let program = root().join("target/bin/list");
-    assert!(
-        program.is_file(),
-        "{} is missing: run `rt check list` at the root of the repository first",
-        program.display()
-    );
-    let mut child = Command::new(program)
-        .stdin(Stdio::piped())
-        .stdout(Stdio::piped())
-        .stderr(Stdio::piped())
-        .spawn()
-        .expect("the program starts");
-    // The program stops reading after 4,097 bytes, and then this write is refused, which is no fault.
-    let _ = child.stdin.take().expect("piped").write_all(input);
-    child.wait_with_output().expect("the program ends")
-}
-
 /// Standard output is the second program's; standard error is what is expected.
 fn expect(input: &[u8], sentence: &str) {
-    let output = list(input);
+    let output = programs::run(&programs::built("list"), input);
     assert_eq!(String::from_utf8_lossy(&output.stdout), text::list_lines(input));
     assert_eq!(String::from_utf8_lossy(&output.stderr), sentence);
     assert_eq!(output.status.code(), Some(0));
