@@ -41,7 +41,7 @@ PHASES = {
     "list": ("Reading a list: 8, 9", "lists", ["lists", "rules", "instructions"]),
     "card": ("Running a list", "lists", ["run_list", "card"]),
     "calls": ("The five calls", "calls", ["nephinor", "table"]),
-    "program": ("The list program", "calls", ["list", "answers", "text"]),
+    "program": ("Side by side; list", "calls", ["list", "beside", "answers", "text"]),
 }
 
 
