@@ -1,30 +1,26 @@
-// Text in a lent buffer: each function puts its text from a position on, and answers the position
-// behind it. What does not fit is left out, and the position goes on all the same, so a caller sees
-// by the last position whether all of it is there.
+// Text in a lent buffer: each function puts its text from a position on, as far as the buffer goes, and
+// answers the position behind what it put. So no function asks for room, and a program shows once, for
+// its whole text, that there was enough.
 
 ghost use mathlib.Core.List.{[], _∷_};
-ghost use Prim.Native.Nat.{_/_, _%_, _≤_, _<_};
+ghost use Prim.Native.Nat.{_/_, _%_, _<_};
 ghost use mathlib.Core.Path.{_≡_};
-ghost use lib.ListN.{length};
 ghost use Rattle.text.specs.Puts.{Puts};
 ghost use Rattle.text.specs.Text.{letter as letterOf, spelled, decimal, field, hex};
 
 // One byte.
 pub fn put(out: &mut [u8], at: usize, byte: u8) -> usize
-    requires { ⌜ at < 1000000000000 ⌝ }
     ensures { λ r. ⌜ Puts (byte ∷ []) (now (out .entry)) at (now (out .exit)) r ⌝ }
 {
-    let behind = at + 1;
     if at < out.len() {
         out[at] = byte;
-        return behind;
+        return at + 1;
     }
-    behind
+    at
 }
 
 // Bytes as they are.
 pub fn put_words(out: &mut [u8], at: usize, words: &[u8]) -> usize
-    requires { ⌜ (at < 100000000000) × (length (now words) < 100000000000) ⌝ }
     ensures { λ r. ⌜ Puts (now (words .entry)) (now (out .entry)) at (now (out .exit)) r ⌝ }
 {
     let mut behind = at;
@@ -48,7 +44,6 @@ fn letter(digit: u64) -> u8
 
 // The digits in front of the last one, as many as there are up to `places`, and then the last one.
 fn put_spelled(out: &mut [u8], at: usize, places: usize, n: u64) -> usize
-    requires { ⌜ (at < 100000000000) × (places ≤ 19) ⌝ }
     ensures { λ r. ⌜ Puts (spelled places n) (now (out .entry)) at (now (out .exit)) r ⌝ }
 {
     let last = letter(n % 10);
@@ -64,7 +59,6 @@ fn put_spelled(out: &mut [u8], at: usize, places: usize, n: u64) -> usize
 
 // A number in decimal.
 pub fn put_decimal(out: &mut [u8], at: usize, n: u64) -> usize
-    requires { ⌜ at < 100000000000 ⌝ }
     ensures { λ r. ⌜ Puts (decimal n) (now (out .entry)) at (now (out .exit)) r ⌝ }
 {
     put_spelled(out, at, 19, n)
@@ -72,7 +66,6 @@ pub fn put_decimal(out: &mut [u8], at: usize, n: u64) -> usize
 
 // A number in decimal, and the byte that ends it: a space, a comma, a line feed.
 pub fn put_field(out: &mut [u8], at: usize, n: u64, end: u8) -> usize
-    requires { ⌜ at < 100000000000 ⌝ }
     ensures { λ r. ⌜ Puts (field n end) (now (out .entry)) at (now (out .exit)) r ⌝ }
 {
     let behind = put_decimal(out, at, n);
@@ -81,7 +74,6 @@ pub fn put_field(out: &mut [u8], at: usize, n: u64, end: u8) -> usize
 
 // One byte in hexadecimal.
 fn put_pair(out: &mut [u8], at: usize, byte: u8) -> usize
-    requires { ⌜ at < 500000000000 ⌝ }
     ensures { λ r. ⌜ Puts (letterOf (byte / 16) ∷ letterOf (byte % 16) ∷ []) (now (out .entry)) at (now (out .exit)) r ⌝ }
 {
     let n = byte as u64;
@@ -93,7 +85,6 @@ fn put_pair(out: &mut [u8], at: usize, byte: u8) -> usize
 
 // Bytes in hexadecimal, two digits each.
 pub fn put_hex(out: &mut [u8], at: usize, bytes: &[u8]) -> usize
-    requires { ⌜ (at < 100000000000) × (length (now bytes) < 100000000000) ⌝ }
     ensures { λ r. ⌜ Puts (hex (now (bytes .entry))) (now (out .entry)) at (now (out .exit)) r ⌝ }
 {
     let mut behind = at;

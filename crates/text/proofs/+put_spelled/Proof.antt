@@ -6,7 +6,8 @@ use native.Mathlib.Nat.{pos-of-ne-zero}
 use native.Mathlib.Omega.{arith}
 use Rattle.text.specs.Text.{spelled}
 use Rattle.text.proofs.Putting.{same-length, reads-as, both}
-use Rattle.text.proofs.Spelling.{spelled-none, spelled-one, spelled-more, length-spelled}
+use Rattle.text.proofs.Spelling.{spelled-none, spelled-one, spelled-more}
+use borrow.Author.Needs.{needs}
 use borrow.Fn.Kinds.{In}
 use borrow.Fn.PlainCycle.{Measures, is, falls, and}
 use Rattle.text.proofs.put_spelled.Reads as put-spelled
@@ -46,7 +47,7 @@ put-spelled-put-requires : (t : ℕ) → put-spelled-lts.Need-put-requires (
   put-spelled-below t,
   put-spelled.Post,
 ) (put-spelled-at t) put-spelled.Post
-put-spelled-put-requires t c κs = omega (arith, c .before .before .before .before .pre .1 .0)
+put-spelled-put-requires t c κs = search needs
 
 put-spelled-same-length : (t : ℕ) → put-spelled-lts.Need-same-length (
   letter-reads.Asked,
@@ -80,7 +81,7 @@ put-spelled-put-requires-2 : (t : ℕ) → put-spelled-lts.Need-put-requires-2 (
   put-spelled-below t,
   put-spelled.Post,
 ) (put-spelled-at t) put-spelled.Post
-put-spelled-put-requires-2 t c κs = omega (arith, c .before .before .before .before .before .pre .1 .0)
+put-spelled-put-requires-2 t c κs = search needs
 
 put-spelled-same-length-2 : (t : ℕ) → put-spelled-lts.Need-same-length-2 (
   letter-reads.Asked,
@@ -129,7 +130,7 @@ put-spelled-put-spelled-requires t c κs =
     let first = c .before .before .before .before .before in
     let measure : first .args .places ≡ t = first .pre .0 in
     let some : 1 ≤ first .args .places = pos-of-ne-zero (c .before .before .if1 .left) in
-    (omega arith, (first .pre .1 .0, omega (arith, first .pre .1 .1)))
+    (omega arith, first .pre .1)
 
 put-spelled-put-requires-3 : (t : ℕ) → put-spelled-lts.Need-put-requires-3 (
   letter-reads.Asked,
@@ -139,11 +140,7 @@ put-spelled-put-requires-3 : (t : ℕ) → put-spelled-lts.Need-put-requires-3 (
   put-spelled-below t,
   put-spelled.Post,
 ) (put-spelled-at t) put-spelled.Post
-put-spelled-put-requires-3 t c κs =
-    let call = c .before .before .before in
-    let first = call .before .before .before .before .before .before in
-    let short = length-spelled (first .args .places - 1) (first .args .n / 10) in
-    omega (arith, call .put-spelled .ensures .moved, short, first .pre .1 .0, first .pre .1 .1)
+put-spelled-put-requires-3 t c κs = search needs
 
 put-spelled-same-length-3 : (t : ℕ) → put-spelled-lts.Need-same-length-3 (
   letter-reads.Asked,

@@ -1,7 +1,5 @@
 -- `put_field` meets its contract: the number, and the byte behind it.
-use native.Mathlib.Omega.{arith}
 use Rattle.text.proofs.Putting.{both}
-use Rattle.text.proofs.Spelling.{length-decimal}
 use borrow.Author.Needs.{needs}
 use Rattle.text.proofs.put_field.Statement.{statement}
 use Rattle.text.proofs.put_field.Tie as tie
@@ -10,9 +8,7 @@ put-decimal-requires : tie.Need-put-decimal-requires
 put-decimal-requires c κs = search needs
 
 put-requires : tie.Need-put-requires
-put-requires c κs =
-    let first = c .before .before .before .before .before .before in
-    omega (arith, first .pre, c .before .before .before .put-decimal .ensures .moved, length-decimal (first .args .n))
+put-requires c κs = search needs
 
 same-length : tie.Need-same-length
 same-length c = search needs

@@ -1,11 +1,11 @@
 -- `put_hex` meets its contract: each turn puts the two letters of the next byte.
-use mathlib.Core.Path.{_≡_}
-use Prim.Native.Nat.{_+_, _-_}
+use Prim.Native.Nat.{_-_}
 use native.Mathlib.Omega.{arith}
 use lib.ListN.{length}
 use Rattle.text.proofs.Putting.{Putting, start, next, finish}
 use Rattle.text.specs.Text.{hex}
-use Rattle.text.proofs.Spelling.{hexFrom, hex-next, hex-none, length-hex}
+use Rattle.text.proofs.Spelling.{hexFrom, hex-next, hex-none}
+use borrow.Author.Needs.{needs}
 use Rattle.text.proofs.put_hex.Statement.{statement}
 use Rattle.text.proofs.put_hex.Tie as tie
 
@@ -22,11 +22,7 @@ shared-slice-read-put-pair : tie.Need-shared-slice-read-put-pair Inv-loop μ-loo
 shared-slice-read-put-pair c = omega arith
 
 put-pair-requires : tie.Need-put-pair-requires Inv-loop μ-loop
-put-pair-requires c κs =
-    let first = c .before .before .before .before .before .before in
-    let turn = c .before .before .before .loop in
-    let place : turn .behind + length (hexFrom (first .args .bytes .now) (turn .i)) ≡ first .args .at + length (hex (first .args .bytes .now)) = turn .inv .place in
-    omega (arith, first .pre .0, first .pre .1, length-hex (first .args .bytes .now))
+put-pair-requires c κs = search needs
 
 add-i : tie.Need-add-i Inv-loop μ-loop
 add-i c = omega arith

@@ -1,9 +1,9 @@
 -- `put_words` meets its contract: each turn puts the next byte.
-use mathlib.Core.Path.{_≡_}
-use Prim.Native.Nat.{ℕ, _+_, _-_}
+use Prim.Native.Nat.{ℕ, _-_}
 use native.Mathlib.Omega.{arith}
 use lib.ListN.{length, drop}
 use Rattle.text.proofs.Putting.{Putting, start, next, finish, drop-next, drop-none}
+use borrow.Author.Needs.{needs}
 use Rattle.text.proofs.put_words.Statement.{statement}
 use Rattle.text.proofs.put_words.Tie as tie
 
@@ -20,11 +20,7 @@ shared-slice-read-put : tie.Need-shared-slice-read-put Inv-loop μ-loop
 shared-slice-read-put c = omega arith
 
 put-requires : tie.Need-put-requires Inv-loop μ-loop
-put-requires c κs =
-    let first = c .before .before .before .before .before .before in
-    let turn = c .before .before .before .loop in
-    let place : turn .behind + length (drop (turn .i) (first .args .words .now)) ≡ first .args .at + length (first .args .words .now) = turn .inv .place in
-    omega (arith, first .pre .0, first .pre .1)
+put-requires c κs = search needs
 
 add-i : tie.Need-add-i Inv-loop μ-loop
 add-i c = omega arith
