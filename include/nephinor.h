@@ -123,10 +123,10 @@ enum {
     NEPHINOR_MOST_STATEMENTS = 64,
     NEPHINOR_MOST_INSTRUCTIONS = 160,
     NEPHINOR_MOST_REGISTERS = 96,
-    /* No block takes more bytes. */
+    /* No block takes more bytes: proved, block-length in crates/theorems/proofs/BlockRoundTrip.antt. */
     NEPHINOR_MOST_BLOCK_BYTES = 983,
-    /* A room of so many bytes fits every list that is made. */
-    NEPHINOR_LIST_ROOM = 2048
+    /* A room of so many bytes fits every list that is made: proved, room-enough in crates/theorems/proofs/Alike.antt. */
+    NEPHINOR_LIST_ROOM = 3844
 };
 
 /* ---- A block as a table of numbers ---- */

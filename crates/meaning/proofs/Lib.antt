@@ -1,5 +1,6 @@
 pub mod Paths
 pub mod Values
+pub mod Corners
 pub mod Computes
 pub mod Making
 pub mod WorkedBlocks

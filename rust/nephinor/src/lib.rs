@@ -26,11 +26,12 @@ pub use refusal::Refusal;
 
 use calls::{Answer, TABLE};
 
-/// No block takes more bytes.
+/// No block takes more bytes: proved, `block-length` in crates/theorems/proofs/BlockRoundTrip.antt.
 pub const MOST_BLOCK_BYTES: usize = 983;
 
-/// A room of so many bytes fits every list that is made.
-pub const LIST_ROOM: usize = 2048;
+/// A room of so many bytes fits every list that is made: proved, `room-enough` in
+/// crates/theorems/proofs/Alike.antt.
+pub const LIST_ROOM: usize = 3844;
 
 /// A list that was made: how many bytes of the room it takes, and what block and list cost.
 #[derive(Clone, Copy, Debug, PartialEq, Eq)]
