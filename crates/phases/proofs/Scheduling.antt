@@ -87,30 +87,46 @@ module _ (b : Block) (slots : List Statement) (front : take (length (b .statemen
       schedule-in-order ss direct reached rows few (combine ss (extend ss (seed ss))) (waiting .units) (waiting .needs) (replicate 64 0) (waiting .waiting)
       (combined-units ss (extend ss (seed ss)) (pairs-admitted ss)) waits units-long needs-long (subst (λ (k : ℕ). length ss ≤ k) (sym zeros-long) few)
 
-  -- The order that the phases leave, one after the other, has the scheduled units of the block.
-  pub units-scheduled : (n : ℕ) (d r : List ℕ) (s e : Tables) (c : Cut) (order : List ℕ) (size : ℕ) → length ss ≡ n
-      → d ≡ directRows slots n numbers writers lefts rights
-      → r ≡ reachedRows d n
-      → s ≡ seededTables slots n facts r numbers writers lefts rights empty
-      → e ≡ visitTablesFrom n facts r 0 s
-      → c ≡ combined n r d (e .next) (e .rights) (cut-tables (replicate 64 0) (replicate 64 0) 0)
-      → 64 ≤ length (c .units) → 64 ≤ length (c .needs)
-      → order ≡ scheduledTables n d (c .units) (c .needs) (c .waiting) (replicate 64 0) .order
-      → size ≡ scheduledTables n d (c .units) (c .needs) (c .waiting) (replicate 64 0) .size
-      → InOrder (scheduledUnits ss) order size
-  units-scheduled n d r s e c order size counted ed er es ee ec long long′ eo ez =
-      let d′ : d ≡ direct = ed ∙ ap (λ (k : ℕ). directRows slots k numbers writers lefts rights) (sym counted) in
-      let r′ : r ≡ reached = er ∙ ap₂ reachedRows d′ (sym counted) in
-      let s′ : s ≡ seededTables slots (length ss) facts reached numbers writers lefts rights empty =
-      es ∙ ap₂ (λ (k : ℕ) (rows : List ℕ). seededTables slots k facts rows numbers writers lefts rights empty) (sym counted) r′ in
-      let e′ : e ≡ pairs =
-      ee ∙ ap₂ (λ (k : ℕ) (rows : List ℕ). visitTablesFrom k facts rows 0 s) (sym counted) r′ ∙ ap (visitTablesFrom (length ss) facts reached 0) s′ in
-      let c′ : c ≡ waiting =
-      ec
-      ∙ ap₂ (λ (k : ℕ) (rows : List ℕ). combined k rows d (e .next) (e .rights) (cut-tables (replicate 64 0) (replicate 64 0) 0)) (sym counted) r′
-      ∙ ap₂ (λ (rows : List ℕ) (t : Tables). combined (length ss) reached rows (t .next) (t .rights) (cut-tables (replicate 64 0) (replicate 64 0) 0)) d′ e′ in
-      let whole : scheduledTables n d (c .units) (c .needs) (c .waiting) (replicate 64 0) ≡ scheduledTables (length ss) direct (waiting .units) (waiting .needs) (waiting .waiting) (replicate 64 0) =
-      ap₂ (λ (k : ℕ) (rows : List ℕ). scheduledTables k rows (c .units) (c .needs) (c .waiting) (replicate 64 0)) (sym counted) d′
-      ∙ ap (λ (t : Cut). scheduledTables (length ss) direct (t .units) (t .needs) (t .waiting) (replicate 64 0)) c′ in
-      subst₂ (InOrder (scheduledUnits ss)) (sym (eo ∙ ap (λ (t : Stage). t .order) whole)) (sym (ez ∙ ap (λ (t : Stage). t .size) whole))
-      (in-order (subst (λ (t : Cut). 64 ≤ length (t .units)) c′ long) (subst (λ (t : Cut). 64 ≤ length (t .needs)) c′ long′))
+  -- the tables as the phases leave them, one after the other
+  module _ (n : ℕ) (d r : List ℕ) (s e : Tables) (counted : length ss ≡ n) (ed : d ≡ directRows slots n numbers writers lefts rights) (er : r ≡ reachedRows d n)
+      (es : s ≡ seededTables slots n facts r numbers writers lefts rights empty) (ee : e ≡ visitTablesFrom n facts r 0 s) where
+    same-direct : d ≡ direct
+    same-direct = ed ∙ ap (λ (k : ℕ). directRows slots k numbers writers lefts rights) (sym counted)
+
+    same-reached : r ≡ reached
+    same-reached = er ∙ ap₂ reachedRows same-direct (sym counted)
+
+    same-seeded : s ≡ seededTables slots (length ss) facts reached numbers writers lefts rights empty
+    same-seeded = es ∙ ap₂ (λ (k : ℕ) (rows : List ℕ). seededTables slots k facts rows numbers writers lefts rights empty) (sym counted) same-reached
+
+    same-pairs : e ≡ pairs
+    same-pairs =
+        ee ∙ ap₂ (λ (k : ℕ) (rows : List ℕ). visitTablesFrom k facts rows 0 s) (sym counted) same-reached ∙ ap (visitTablesFrom (length ss) facts reached 0) same-seeded
+
+    -- The tables of pairs have the pairs of the block.
+    pub pairs-extended : e ≡ tablesOf (extend ss (seed ss))
+    pairs-extended = same-pairs ∙ extended
+
+    module _ (c : Cut) (ec : c ≡ combined n r d (e .next) (e .rights) (cut-tables (replicate 64 0) (replicate 64 0) 0)) where
+      same-waiting : c ≡ waiting
+      same-waiting =
+          ec
+          ∙ ap₂ (λ (k : ℕ) (rows : List ℕ). combined k rows d (e .next) (e .rights) (cut-tables (replicate 64 0) (replicate 64 0) 0)) (sym counted) same-reached
+          ∙ ap₂ (λ (rows : List ℕ) (t : Tables). combined (length ss) reached rows (t .next) (t .rights) (cut-tables (replicate 64 0) (replicate 64 0) 0)) same-direct same-pairs
+
+      -- The units that wait are those of the block's chains.
+      pub units-wait : Waits d (combine ss (extend ss (seed ss))) (c .units) (c .needs) (c .waiting)
+      units-wait =
+          subst₂ (λ (rows : List ℕ) (t : Cut). Waits rows (combine ss (extend ss (seed ss))) (t .units) (t .needs) (t .waiting)) (sym same-direct) (sym same-waiting) waits
+
+      -- The order that the phases leave, one after the other, has the scheduled units of the block.
+      pub units-scheduled : (order : List ℕ) (size : ℕ) → 64 ≤ length (c .units) → 64 ≤ length (c .needs)
+          → order ≡ scheduledTables n d (c .units) (c .needs) (c .waiting) (replicate 64 0) .order
+          → size ≡ scheduledTables n d (c .units) (c .needs) (c .waiting) (replicate 64 0) .size
+          → InOrder (scheduledUnits ss) order size
+      units-scheduled order size long long′ eo ez =
+          let whole : scheduledTables n d (c .units) (c .needs) (c .waiting) (replicate 64 0) ≡ scheduledTables (length ss) direct (waiting .units) (waiting .needs) (waiting .waiting) (replicate 64 0) =
+          ap₂ (λ (k : ℕ) (rows : List ℕ). scheduledTables k rows (c .units) (c .needs) (c .waiting) (replicate 64 0)) (sym counted) same-direct
+          ∙ ap (λ (t : Cut). scheduledTables (length ss) direct (t .units) (t .needs) (t .waiting) (replicate 64 0)) same-waiting in
+          subst₂ (InOrder (scheduledUnits ss)) (sym (eo ∙ ap (λ (t : Stage). t .order) whole)) (sym (ez ∙ ap (λ (t : Stage). t .size) whole))
+          (in-order (subst (λ (t : Cut). 64 ≤ length (t .units)) same-waiting long) (subst (λ (t : Cut). 64 ≤ length (t .needs)) same-waiting long′))

@@ -40,7 +40,7 @@ pub fn fill_tables(
 }
 
 // "Seeding", then "Extension": the admitted pairs.
-fn pair_up(
+pub fn pair_up(
     block: Block,
     n: usize,
     facts: &[u64],
@@ -74,7 +74,7 @@ fn pair_up(
 }
 
 // "Combination", then "Schedule": the units in order.
-fn order_units(
+pub fn order_units(
     n: usize,
     reached: [u64; 64],
     direct: &[u64],

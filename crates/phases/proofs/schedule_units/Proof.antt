@@ -39,8 +39,9 @@ same-length c = search needs
 returns : tie.Need-returns
 returns c =
     let start = c .before .before .before .before .before .before .before .before .before .before .before .before .before .before .before .before .before .before .before .before in
-    scheduled-by (start .args .block) _ _ _ _ _ (start .pre .1 .0 .1) _ _ _ _ _ _ _ _ _ _ (start .pre .1 .0 .0)
-    (c .before .before .before .before .before .before .before .before .before .before .before .before .before .dependences .ensures) (c .before .before .before .before .before .before .before .before .before .before .before .reachability .ensures) (c .before .before .before .before .before .before .before .before .pair-up .ensures) (start .pre .1 .1) (c .before .before .order-units .ensures)
+    scheduled-by (start .args .block) _ _ _ _ _ (start .pre .1 .0 .1) _ _ _ _ _ _ _ (start .pre .1 .0 .0)
+    (c .before .before .before .before .before .before .before .before .before .before .before .before .before .dependences .ensures) (c .before .before .before .before .before .before .before .before .before .before .before .reachability .ensures) (c .before .before .before .before .before .before .before .before .pair-up .ensures)
+    _ _ _ (start .pre .1 .1) (c .before .before .order-units .ensures)
 
 pub schedule-units-spec : {M : Type 1} → statement M
 schedule-units-spec =
