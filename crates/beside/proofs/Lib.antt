@@ -1,3 +1,4 @@
 pub mod Comparison
 pub mod Running
 pub mod Shown
+pub mod Determined
