@@ -41,7 +41,9 @@ PHASES = {
     "list": ("Reading a list: 8, 9", "lists", ["lists", "rules", "instructions"]),
     "card": ("Running a list", "lists", ["run_list", "card"]),
     "calls": ("The five calls", "calls", ["nephinor", "table"]),
-    "program": ("Side by side; list", "calls", ["list", "beside", "answers", "text"]),
+    "beside": ("Side by side", "calls", ["beside"]),
+    "course": ("How it came about", "calls", ["course"]),
+    "program": ("The programs", "calls", ["list", "answers", "named", "text"]),
 }
 
 
@@ -204,11 +206,15 @@ def draw_phases(crates):
 
     p.heading(678, "What callers hold")
     p.card("calls", columns[0], 690)
-    p.card("program", columns[1], 690)
-    p.right("calls", "program", 712)
-    p.text(columns[2] - 40, 710, "From C the calls are in include/nephinor.h, from Rust in rust/nephinor.", size=11, anchor="start")
-    p.text(columns[2] - 40, 728, "The program prints a block's list as text.", size=11, anchor="start")
-    p.write(DOCS / "phases.svg", 780, "The data's way through the phases, and the crates of each")
+    p.card("beside", columns[1], 690)
+    p.card("program", columns[2], 690, columns=2)
+    p.card("course", columns[3], 690)
+    p.right("calls", "beside", 712)
+    p.right("beside", "program", 712)
+    p.arrow(f"M{columns[3]} 712 H{columns[2] + CARD + 2:g}")
+    p.text(20, 768, "From C the calls are in include/nephinor.h,", size=11, anchor="start")
+    p.text(20, 783, "from Rust in rust/nephinor.", size=11, anchor="start")
+    p.write(DOCS / "phases.svg", 800, "The data's way through the phases, and the crates of each")
 
 
 # ---- What stands on what ----

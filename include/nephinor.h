@@ -5,6 +5,11 @@
  * instructions, which an acquisition card runs. Both are bytes. The calls read a block, write one, make its list, and
  * run either on variables and cells that the caller lends.
  *
+ * The library is for Linux on x86-64: `rt staticlib nephinor` writes target/staticlib/libnephinor.a, which is linked with the
+ * program. A call returns one number, the answer: look at nephinor_status_of(answer) first; if that is NEPHINOR_DONE, take
+ * the size and the prices out of the answer. A room of NEPHINOR_LIST_ROOM bytes fits every list. examples/c/worked_block.c
+ * makes a list and runs it beside its block.
+ *
  * What is asked of the caller: each pointer stands with the number of elements behind it, is aligned for its type and is
  * not NULL, not even beside the length 0. What a call writes overlaps nothing else that it is given. Nothing is asked of
  * the contents: whatever the bytes are, a call ends and answers.
@@ -117,13 +122,16 @@ static inline unsigned nephinor_list_price_of(uint64_t answer)
 /* ---- Limits ---- */
 
 enum {
+    /* A block declares at most so many variables and arrays, and has at most so many statements. */
     NEPHINOR_MOST_VARIABLES = 32,
     NEPHINOR_MOST_ARRAYS = 8,
-    NEPHINOR_MOST_CELLS_OF_AN_ARRAY = 256,
     NEPHINOR_MOST_STATEMENTS = 64,
+    /* An array has at least one cell, and at most so many. */
+    NEPHINOR_MOST_CELLS_OF_AN_ARRAY = 256,
+    /* A list has at most so many instructions, and writes at most so many registers. */
     NEPHINOR_MOST_INSTRUCTIONS = 160,
     NEPHINOR_MOST_REGISTERS = 96,
-    /* No block takes more bytes: proved, block-length in crates/theorems/proofs/BlockRoundTrip.antt. */
+    /* No block that is read or written takes more bytes: proved, block-length in crates/theorems/proofs/BlockRoundTrip.antt. */
     NEPHINOR_MOST_BLOCK_BYTES = 983,
     /* A room of so many bytes fits every list that is made: proved, room-enough in crates/theorems/proofs/Alike.antt. */
     NEPHINOR_LIST_ROOM = 3844
@@ -136,14 +144,14 @@ enum {
  * the first is the operation, and three each say the destination, the left operand and the right operand.
  */
 enum {
-    NEPHINOR_TABLE_VARIABLES = 0,
-    NEPHINOR_TABLE_LIVE_OUT = 1,
-    NEPHINOR_TABLE_ARRAYS = 2,
-    NEPHINOR_TABLE_STATEMENT_COUNT = 3,
-    NEPHINOR_TABLE_LENGTHS = 4,
-    NEPHINOR_TABLE_STATEMENTS = 12,
-    NEPHINOR_TABLE_STATEMENT_SIZE = 10,
-    NEPHINOR_TABLE_SIZE = 652,
+    NEPHINOR_TABLE_VARIABLES = 0,       /* how many variables */
+    NEPHINOR_TABLE_LIVE_OUT = 1,        /* how many of them, the first ones, are live out */
+    NEPHINOR_TABLE_ARRAYS = 2,          /* how many arrays */
+    NEPHINOR_TABLE_STATEMENT_COUNT = 3, /* how many statements */
+    NEPHINOR_TABLE_LENGTHS = 4,         /* from here on the lengths of 8 arrays */
+    NEPHINOR_TABLE_STATEMENTS = 12,     /* from here on 64 statements */
+    NEPHINOR_TABLE_STATEMENT_SIZE = 10, /* how many numbers a statement takes */
+    NEPHINOR_TABLE_SIZE = 652,          /* how many numbers a table has */
 
     /* Within the ten numbers of a statement. */
     NEPHINOR_OPERATION = 0,
@@ -158,7 +166,10 @@ enum {
     NEPHINOR_KIND_NOTHING = 3   /* 0, 0: the right of a copy */
 };
 
-/* The operations. Results of the first three after copy are taken modulo 2^32; the shift count is taken modulo 32. */
+/*
+ * The operations. Results of add, subtract and multiply are taken modulo 2^32. The shift count is the right operand modulo 32.
+ * A copy has no right operand.
+ */
 enum nephinor_operation {
     NEPHINOR_COPY = 0,
     NEPHINOR_ADD = 1,
@@ -168,6 +179,39 @@ enum nephinor_operation {
     NEPHINOR_OR = 5,
     NEPHINOR_EXCLUSIVE_OR = 6,
     NEPHINOR_SHIFT_RIGHT = 7
+};
+
+/* ---- The bytes of a block and of a list ---- */
+
+/*
+ * Numbers of more than one byte are big-endian.
+ *
+ * A block: 1, the version; its length in bytes, all of it (2 bytes); how many variables it has, how many of them, the first ones,
+ * are live out, how many arrays, how many statements (1 byte each); the length of each array (2 bytes each); the statements. A
+ * statement: the number of its bytes behind this one; operation; destination; left; right, but not for a copy. A place or an
+ * operand: its kind; then for a constant 4 bytes, for a variable its number, for a cell array and index.
+ *
+ * A list: 1, the version; its length in bytes, all of it (2 bytes); how many instructions it has (1 byte); the instructions. An
+ * instruction: the number of its bytes behind this one; its code; its fields, one byte each, but for the constants of C, 4 bytes
+ * each, and the operands of G, written as in a block.
+ */
+enum nephinor_code {
+    /* statement: runs the statement of this number, counted from 0. */
+    NEPHINOR_S = 0,
+    /* r, k, array, index: loads k cells in a row into register r. */
+    NEPHINOR_L = 1,
+    /* r, k, k constants: sets the lanes of register r. */
+    NEPHINOR_C = 2,
+    /* r, k, k operands: gathers the lanes of register r. */
+    NEPHINOR_G = 3,
+    /* r, operation, k, ra, rb: works on the lanes of ra and rb, lane by lane, into register r; a copy has no rb. */
+    NEPHINOR_O = 4,
+    /* r, k, array, index: stores the lanes of register r into k cells in a row. */
+    NEPHINOR_W = 5,
+    /* r, lane, array, index: stores one lane into a cell. */
+    NEPHINOR_D = 6,
+    /* r, lane, variable: puts one lane into a variable. */
+    NEPHINOR_X = 7
 };
 
 /* ---- The five calls ---- */

@@ -32,7 +32,8 @@ pub struct Statement {
     pub right: Option<Operand>,
 }
 
-/// The operation; its number in the bytes is the discriminant.
+/// The operation; its number in the bytes is the discriminant. Results of add, subtract and multiply are
+/// taken modulo 2^32. The shift count is the right operand modulo 32.
 #[derive(Clone, Copy, Debug, PartialEq, Eq)]
 pub enum Operation {
     Copy = 0,

@@ -56,9 +56,13 @@ pub const TABLE: usize = 652;
 /// What every call returns: the status, a size, and up to two prices, zeros where there is none.
 #[derive(Clone, Copy, Debug, PartialEq, Eq)]
 pub struct Answer {
+    /// 0 for done, else the number of a `Refusal`.
     pub status: u8,
+    /// How many elements the answer takes in the room or in the table.
     pub size: u16,
+    /// Of a run the price paid; of a list that was made the price of its block.
     pub price: u16,
+    /// The price of the list that was made.
     pub list_price: u16,
 }
 

@@ -13,7 +13,8 @@
 //! assert_eq!((ran.price, variables, cells), (2, [4], [8]));
 //! ```
 //!
-//! `calls` has the same calls with the library's own numbers for answers.
+//! `calls` has the same calls with the library's own numbers for answers. What the bytes of a block and
+//! of a list mean is said in `include/nephinor.h`.
 
 #[cfg(not(target_arch = "x86_64"))]
 mod absent;
@@ -26,7 +27,26 @@ pub use refusal::Refusal;
 
 use calls::{Answer, TABLE};
 
-/// No block takes more bytes: proved, `block-length` in crates/theorems/proofs/BlockRoundTrip.antt.
+/// A block declares at most so many variables.
+pub const MOST_VARIABLES: usize = 32;
+
+/// A block declares at most so many arrays.
+pub const MOST_ARRAYS: usize = 8;
+
+/// A block has at most so many statements.
+pub const MOST_STATEMENTS: usize = 64;
+
+/// An array has at least one cell, and at most so many.
+pub const MOST_CELLS_OF_AN_ARRAY: usize = 256;
+
+/// A list has at most so many instructions.
+pub const MOST_INSTRUCTIONS: usize = 160;
+
+/// A list writes at most so many registers.
+pub const MOST_REGISTERS: usize = 96;
+
+/// No block that is read or written takes more bytes: proved, `block-length` in
+/// crates/theorems/proofs/BlockRoundTrip.antt.
 pub const MOST_BLOCK_BYTES: usize = 983;
 
 /// A room of so many bytes fits every list that is made: proved, `room-enough` in

@@ -6,23 +6,27 @@ use std::fmt;
 /// A refusal. Everything lent is as it was.
 #[derive(Clone, Copy, Debug, PartialEq, Eq)]
 pub enum Refusal {
-    /// 1
+    /// 1: the block's version is not 1.
     BlockVersion,
-    /// 2
+    /// 2: the block has under 7 bytes, or its stated length is not the number of bytes given.
     BlockLength,
-    /// 3
+    /// 3: a count or an array's length is over its limit, an array has length 0, or more variables are
+    /// live out than there are.
     BlockLimit,
-    /// 4
+    /// 4: the block's bytes end early or are left over, a record's length is wrong, an operation or a
+    /// kind is unknown, or a constant or a number of operands stands where it is not allowed.
     BlockForm,
-    /// 5
+    /// 5: the block names a variable, an array or an index that it does not declare.
     BlockUndeclared,
-    /// 6
+    /// 6: the variables or cells lent are not exactly as many as the block declares.
     LentSize,
-    /// 7, with the size that the answer takes
+    /// 7: the room is smaller than the answer, which takes so many elements.
     RoomTooSmall { needed: usize },
-    /// 8
+    /// 8: the list's bytes are at fault: under 4, version, length, more than 160 instructions, a broken
+    /// record, an unknown code, kind or operation, lanes not 2 or 4, or bytes left over.
     ListForm,
-    /// 9
+    /// 9: the list reads well, but names a statement, place, lane or register against the rules, a 97th
+    /// register included.
     ListAgainstRules,
 }
 

@@ -1,9 +1,11 @@
-//! The tests of the second program. All are deterministic, and what they expect comes from document
-//! 01, from the shared vectors, or from a naive computation in the test itself.
+//! The tests of the second program, and that the documents name what is there. All are deterministic,
+//! and what they expect comes from document 01, from the shared vectors, or from a naive computation in
+//! the test itself.
 
 mod command_line;
 mod damaged;
 mod dependence;
+mod documents;
 mod features;
 mod help;
 mod naive;

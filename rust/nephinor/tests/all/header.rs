@@ -28,6 +28,12 @@ fn numbers() {
         assert!(header.contains(&format!(" {name} = {}{end}", index + 1)), "{name}");
     }
     let sizes = [
+        ("NEPHINOR_MOST_VARIABLES", nephinor::MOST_VARIABLES),
+        ("NEPHINOR_MOST_ARRAYS", nephinor::MOST_ARRAYS),
+        ("NEPHINOR_MOST_STATEMENTS", nephinor::MOST_STATEMENTS),
+        ("NEPHINOR_MOST_CELLS_OF_AN_ARRAY", nephinor::MOST_CELLS_OF_AN_ARRAY),
+        ("NEPHINOR_MOST_INSTRUCTIONS", nephinor::MOST_INSTRUCTIONS),
+        ("NEPHINOR_MOST_REGISTERS", nephinor::MOST_REGISTERS),
         ("NEPHINOR_MOST_BLOCK_BYTES", nephinor::MOST_BLOCK_BYTES),
         ("NEPHINOR_LIST_ROOM", nephinor::LIST_ROOM),
         ("NEPHINOR_TABLE_SIZE", nephinor::calls::TABLE),
