@@ -1,10 +1,11 @@
 -- Text as bytes: words in plain letters, numbers in decimal, bytes in hexadecimal.
-use Prim.Native.Nat.{ℕ, zero, suc, _+_, _/_, _%_}
+use Prim.Native.Nat.{ℕ, zero, suc, _+_, _-_, _/_, _%_}
 use Prim.Native.Char.{code}
 use Prim.Native.String.{String, [] as none, _∷_ as _then_}
 use mathlib.Core.Bool.{true, false}
 use mathlib.Core.List.{List, [], _∷_, _++_}
 use lib.Dec.{ltb}
+use lib.ListN.{length, replicate}
 use Rattle.basics.specs.Choice.{pick}
 
 -- words in plain letters, a byte each
@@ -33,3 +34,10 @@ field n end = decimal n ++ end ∷ []
 unfoldable pub hex : List ℕ → List ℕ
 hex [] = []
 hex (byte ∷ bytes) = letter (byte / 16) ∷ letter (byte % 16) ∷ hex bytes
+
+abbrev pub spaces : ℕ → List ℕ
+spaces n = replicate n 32
+
+-- a number in decimal at the right end of a column, or whole where the column is too narrow
+unfoldable pub column : ℕ → ℕ → List ℕ
+column width n = spaces (width - length (decimal n)) ++ decimal n

@@ -3,10 +3,11 @@
 // its whole text, that there was enough.
 
 ghost use mathlib.Core.List.{[], _∷_};
-ghost use Prim.Native.Nat.{_/_, _%_, _<_};
+ghost use Prim.Native.Nat.{_/_, _%_, _<_, _-_};
 ghost use mathlib.Core.Path.{_≡_};
 ghost use Rattle.text.specs.Puts.{Puts};
-ghost use Rattle.text.specs.Text.{letter as letterOf, spelled, decimal, field, hex};
+ghost use lib.ListN.{length};
+ghost use Rattle.text.specs.Text.{letter as letterOf, spelled, decimal, field, hex, spaces, column};
 
 // One byte.
 pub fn put(out: &mut [u8], at: usize, byte: u8) -> usize
@@ -94,4 +95,52 @@ pub fn put_hex(out: &mut [u8], at: usize, bytes: &[u8]) -> usize
         i += 1;
     }
     behind
+}
+
+// So many spaces.
+pub fn put_spaces(out: &mut [u8], at: usize, n: usize) -> usize
+    ensures { λ r. ⌜ Puts (spaces n) (now (out .entry)) at (now (out .exit)) r ⌝ }
+{
+    let mut behind = at;
+    let mut i: usize = 0;
+    while i < n {
+        behind = put(out, behind, b' ');
+        i += 1;
+    }
+    behind
+}
+
+// How many digits a number has in decimal.
+pub fn digits(n: u64) -> usize
+    ensures { λ r. ⌜ r ≡ length (decimal n) ⌝ }
+{
+    let mut rest = n;
+    let mut front: usize = 0;
+    while front < 19 {
+        if rest < 10 {
+            return front + 1;
+        }
+        rest = rest / 10;
+        front += 1;
+    }
+    20
+}
+
+// How many are left of a width, none where nothing is.
+pub fn left_of(width: usize, taken: usize) -> usize
+    ensures { λ r. ⌜ r ≡ width - taken ⌝ }
+{
+    if width < taken {
+        return 0;
+    }
+    width - taken
+}
+
+// A number in decimal, at the right end of a column; a number that is wider than the column stands whole.
+pub fn put_column(out: &mut [u8], at: usize, width: usize, n: u64) -> usize
+    ensures { λ r. ⌜ Puts (column width n) (now (out .entry)) at (now (out .exit)) r ⌝ }
+{
+    let empty = left_of(width, digits(n));
+    let behind = put_spaces(out, at, empty);
+    put_decimal(out, behind, n)
 }
