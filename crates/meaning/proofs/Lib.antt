@@ -1,5 +1,7 @@
 pub mod Paths
 pub mod Values
+pub mod Lengths
+pub mod Bounds
 pub mod Computes
 pub mod Making
 pub mod WorkedBlocks
