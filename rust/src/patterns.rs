@@ -142,14 +142,7 @@ impl<'a> Draft<'a> {
     pub fn stencil(&mut self, lanes: usize) -> Vec<Statement> {
         let (operation, to, from) = (self.operation(), self.row(lanes), self.row(lanes));
         let other = self.row(lanes);
-        (0..lanes)
-            .map(|lane| Statement {
-                operation,
-                destination: to[lane],
-                left: Operand::Held(from[lane]),
-                right: Operand::Held(other[lane]),
-            })
-            .collect()
+        lane_by_lane(operation, &to, &held(&from), &held(&other))
     }
 
     /// One operand for each lane: a row, constants, earlier results, or scattered operands.
@@ -195,13 +188,8 @@ impl<'a> Draft<'a> {
             let left = self.lane_operands(lanes, &earlier, style);
             let right = self.lane_operands(lanes, &earlier, style);
             let to = self.lane_destinations(lanes, style);
-            let statement = |lane: usize| Statement {
-                operation,
-                destination: to[lane],
-                left: left[lane],
-                right: if copy { Operand::Nothing } else { right[lane] },
-            };
-            let mut step: Vec<Statement> = (0..lanes).map(statement).collect();
+            let right = if copy { vec![Operand::Nothing; lanes] } else { right };
+            let mut step = lane_by_lane(operation, &to, &left, &right);
             if !copy && self.random.percent(style.crossed) {
                 self.cross(&mut step);
             }
@@ -261,14 +249,7 @@ impl<'a> Draft<'a> {
         let (operation, from) = (self.operation(), self.row(lanes));
         let to = self.lane_destinations(lanes, Style { cells_written: 60, ..PLAIN });
         let right = self.lane_operands(lanes, &[], PLAIN);
-        (0..lanes)
-            .map(|lane| Statement {
-                operation,
-                destination: to[lane],
-                left: Operand::Held(from[lane]),
-                right: right[lane],
-            })
-            .collect()
+        lane_by_lane(operation, &to, &held(&from), &right)
     }
 
     /// Two loaded variables, several readers of each, and stores that want those readers in
@@ -474,12 +455,7 @@ impl<'a> Draft<'a> {
             let (operation, to) = (self.operation(), self.row(lanes));
             let left = self.random.below(3);
             let right = self.random.below(3);
-            statements.extend((0..lanes).map(|lane| Statement {
-                operation,
-                destination: to[lane],
-                left: tuples[left][lane],
-                right: tuples[right][lane],
-            }));
+            statements.extend(lane_by_lane(operation, &to, &tuples[left], &tuples[right]));
             if self.random.percent(30) {
                 if let Operand::Held(place) = tuples[left][self.random.below(lanes)] {
                     statements.push(copy(place, self.constant()));
@@ -500,15 +476,29 @@ impl<'a> Draft<'a> {
         if self.random.percent(50) {
             to.reverse();
         }
-        (0..lanes)
-            .map(|lane| Statement {
-                operation,
-                destination: to[lane],
-                left: Operand::Held(from[lane]),
-                right: right[lane],
-            })
-            .collect()
+        lane_by_lane(operation, &to, &held(&from), &right)
     }
+}
+
+fn held(places: &[Place]) -> Vec<Operand> {
+    places.iter().map(|&place| Operand::Held(place)).collect()
+}
+
+/// One operation, a statement for each lane.
+fn lane_by_lane(
+    operation: u8,
+    to: &[Place],
+    left: &[Operand],
+    right: &[Operand],
+) -> Vec<Statement> {
+    (0..to.len())
+        .map(|lane| Statement {
+            operation,
+            destination: to[lane],
+            left: left[lane],
+            right: right[lane],
+        })
+        .collect()
 }
 
 pub fn copy(destination: Place, left: Operand) -> Statement {

@@ -1,9 +1,9 @@
 -- Laws of finding and keeping elements, and of meeting one element after the other.
 use mathlib.Core.Path.{_≡_, refl, sym, ap, _∙_}
 use mathlib.Core.Bool.{Bool, true, false, _||_, not}
-use mathlib.Core.Option.{some}
-use mathlib.Core.List.{List, [], _∷_, _++_, map, append-assoc, append-nil}
-use Prim.Native.Nat.{ℕ, suc, _≤_}
+use mathlib.Core.Option.{none, some, Option·some-ne-none}
+use mathlib.Core.List.{List, [], _∷_, _++_, append-assoc, append-nil}
+use Prim.Native.Nat.{suc, _≤_}
 use native.Mathlib.Omega.{arith}
 use lib.ListN.{length}
 use Rattle.basics.specs.Lists.{any, all, keep, first, flat, each}
@@ -41,6 +41,23 @@ module _ {ℓ} {A : Type ℓ} (test : A → Bool) where
   pub first-no : (x : A) (xs : List A) → test x ≡ false → first test (x ∷ xs) ≡ first test xs
   first-no x xs e = rw (e, first)
 
+  -- where one list stands behind another, it is in the first, or else in the second
+  pub first-ahead : (xs ys : List A) (x : A) → first test xs ≡ some x → first test (xs ++ ys) ≡ some x
+  first-ahead [] ys x e = absurd (Option·some-ne-none x (sym e))
+  first-ahead (y ∷ xs) ys x e = by (test y) refl (first-ahead xs ys x)
+    where
+      by : (t : Bool) → test y ≡ t → (first test xs ≡ some x → first test (xs ++ ys) ≡ some x) → first test (y ∷ xs ++ ys) ≡ some x
+      by true t rest = first-yes y (xs ++ ys) t ∙ sym (first-yes y xs t) ∙ e
+      by false t rest = first-no y (xs ++ ys) t ∙ rest (sym (first-no y xs t) ∙ e)
+
+  pub first-behind : (xs ys : List A) → first test xs ≡ none → first test (xs ++ ys) ≡ first test ys
+  first-behind [] ys e = refl
+  first-behind (y ∷ xs) ys e = by (test y) refl (first-behind xs ys)
+    where
+      by : (t : Bool) → test y ≡ t → (first test xs ≡ none → first test (xs ++ ys) ≡ first test ys) → first test (y ∷ xs ++ ys) ≡ first test ys
+      by true t rest = absurd (Option·some-ne-none y (sym (first-yes y xs t) ∙ e))
+      by false t rest = first-no y (xs ++ ys) t ∙ rest (sym (first-no y xs t) ∙ e)
+
   pub any-append : (xs ys : List A) → any test (xs ++ ys) ≡ any test xs || any test ys
   any-append [] ys = refl
   any-append (x ∷ xs) ys = by (test x) (any-append xs ys)
@@ -57,7 +74,7 @@ each-append f (x ∷ xs) ys s = each-append f xs ys (f x s)
 -- what is found passes, is one of the elements, and is not kept by the opposite test
 module _ {ℓ} {A : Type ℓ} (test : A → Bool) where
   pub first-passes : (xs : List A) (x : A) → first test xs ≡ some x → test x ≡ true
-  first-passes [] x e = let z : _≡_ {A = ℕ} 0 1 = cc in absurd (omega arith)
+  first-passes [] x e = absurd (Option·some-ne-none x (sym e))
   first-passes (y ∷ ys) x e = by (test y) refl (first-passes ys x)
     where
       by : (t : Bool) → test y ≡ t → (first test ys ≡ some x → test x ≡ true) → test x ≡ true
@@ -67,7 +84,7 @@ module _ {ℓ} {A : Type ℓ} (test : A → Bool) where
       by false t rest = rest (sym (first-no test y ys t) ∙ e)
 
   pub first-all : (other : A → Bool) (xs : List A) (x : A) → first test xs ≡ some x → all other xs ≡ true → other x ≡ true
-  first-all other [] x e a = let z : _≡_ {A = ℕ} 0 1 = cc in absurd (omega arith)
+  first-all other [] x e a = absurd (Option·some-ne-none x (sym e))
   first-all other (y ∷ ys) x e a = by (test y) refl (first-all other ys x)
     where
       by : (t : Bool) → test y ≡ t → (first test ys ≡ some x → all other ys ≡ true → other x ≡ true) → other x ≡ true
@@ -77,7 +94,7 @@ module _ {ℓ} {A : Type ℓ} (test : A → Bool) where
       by false t rest = rest (sym (first-no test y ys t) ∙ e) (all-others other y ys a)
 
   pub keep-shorter : (xs : List A) (x : A) → first test xs ≡ some x → suc (length (keep (λ y. not (test y)) xs)) ≤ length xs
-  keep-shorter [] x e = let z : _≡_ {A = ℕ} 0 1 = cc in absurd (omega arith)
+  keep-shorter [] x e = absurd (Option·some-ne-none x (sym e))
   keep-shorter (y ∷ ys) x e = by (test y) refl (keep-shorter ys x)
     where
       by : (t : Bool) → test y ≡ t → (first test ys ≡ some x → suc (length (keep (λ z. not (test z)) ys)) ≤ length ys)
@@ -103,7 +120,3 @@ all-implies test other h (x ∷ xs) e = and-both (other x) _ (h x (all-first tes
 pub flat-append {ℓ} : {A : Type ℓ} (xss : List (List A)) (xs : List A) → flat (xss ++ xs ∷ []) ≡ flat xss ++ xs
 flat-append [] xs = append-nil xs
 flat-append (ys ∷ xss) xs = ap (λ rest. ys ++ rest) (flat-append xss xs) ∙ sym (append-assoc ys (flat xss) xs)
-
-pub map-append {ℓ κ} : {A : Type ℓ} {B : Type κ} (f : A → B) (xs ys : List A) → map f (xs ++ ys) ≡ map f xs ++ map f ys
-map-append f [] ys = refl
-map-append f (x ∷ xs) ys = ap (λ rest. f x ∷ rest) (map-append f xs ys)

@@ -1,17 +1,36 @@
--- The laws of lists that loops over bytes and slots lean on: what is left behind a place, and slots that are filled from the front.
-use mathlib.Core.Path.{_≡_, sym, ap, _∙_}
+-- The laws of lists that loops over bytes and slots lean on: what is left behind a place, the first elements as far as there are any, and
+-- slots that are filled from the front.
+use mathlib.Core.Path.{_≡_, refl, sym, ap, _∙_}
+use mathlib.Core.Logic.{_⊎_, inl, inr}
 use mathlib.Core.List.{List}
-use Prim.Native.Nat.{ℕ, zero, suc, _+_, _-_, _≤_}
+use Prim.Native.Nat.{ℕ, zero, suc, _+_, _-_, _≤_, _<_, min}
 use native.Mathlib.Nat.{zero-add, sub-zero, zero-sub, suc-sub-suc}
 use native.Mathlib.Omega.{arith}
-use lib.ListN.{length, take, drop, replicate, length-drop, length-replicate}
+use lib.ListN.{length, getD, take, drop, replicate, length-drop, length-replicate}
 use lib.Seq.{take-all, sets, sets-eq}
 use Rattle.basics.specs.Lists.{fill}
+use Rattle.basics.proofs.Tests.{below-or-not}
 
 module _ {ℓ} {A : Type ℓ} where
   -- all that is left behind a place
   pub take-rest : (l : List A) (n : ℕ) → take (length l - n) (drop n l) ≡ drop n l
   take-rest l n = take-all (length l - n) (drop n l) (omega (arith, length-drop n l))
+
+  -- the first n elements of a list that has fewer are all of them
+  pub take-least : (n : ℕ) (l : List A) → take (min n (length l)) l ≡ take n l
+  take-least n l = by (below-or-not n (length l))
+    where
+      by : (n < length l) ⊎ (length l ≤ n) → take (min n (length l)) l ≡ take n l
+      by (inl low) =
+          let least : min n (length l) ≡ n = omega arith in
+          rw least
+      by (inr high) = take-all (min n (length l)) l (omega arith) ∙ sym (take-all n l high)
+
+  -- where all elements are d, and so is what stands behind them, d is at every place
+  pub replicate-at : (n i : ℕ) (d : A) → getD (replicate n d) i d ≡ d
+  replicate-at zero i d = refl
+  replicate-at (suc n) zero d = refl
+  replicate-at (suc n) (suc i) d = replicate-at n i d
 
   pub drop-replicate : (n m : ℕ) (d : A) → drop m (replicate n d) ≡ replicate (n - m) d
   drop-replicate n zero d = ap (λ (k : ℕ). replicate k d) (sym (sub-zero n))

@@ -22,10 +22,6 @@ module _ {ℓ} {A : Type ℓ} (test : A → Bool) where
   all-at (x ∷ xs) zero d e h = all-first x xs e
   all-at (x ∷ xs) (suc i) d e h = all-at xs i d (all-others x xs e) (omega arith)
 
-  pub all-by-number : (xs : List A) (d : A) → ((i : ℕ) → i < length xs → test (getD xs i d) ≡ true) → all test xs ≡ true
-  all-by-number [] d h = refl
-  all-by-number (x ∷ xs) d h = and-both (test x) (all test xs) (h 0 (omega arith)) (all-by-number xs d λ i below. h (suc i) (omega arith))
-
   -- and so do those of each part
   pub all-take : (n : ℕ) (xs : List A) → all test xs ≡ true → all test (take n xs) ≡ true
   all-take zero xs e = refl
@@ -53,6 +49,13 @@ module _ {ℓ} {A : Type ℓ} (test : A → Bool) where
 pub pick-holds {ℓ κ} : {A : Type ℓ} (P : A → Type κ) (test : Bool) (a b : A) → (test ≡ true → P a) → (test ≡ false → P b) → P (pick test a b)
 pick-holds P true a b h k = h refl
 pick-holds P false a b h k = k refl
+
+-- the answer that a test picks
+pub picked {ℓ} : {A : Type ℓ} {z : A} (test : Bool) (x y : A) → test ≡ true → z ≡ x → z ≡ pick test x y
+picked test x y e h = rw (e, h)
+
+pub left-out {ℓ} : {A : Type ℓ} {z : A} (test : Bool) (x y : A) → test ≡ false → z ≡ y → z ≡ pick test x y
+left-out test x y e h = rw (e, h)
 
 module _ {ℓ} {A : Type ℓ} where
   pub no-elements : (xs : List A) → length xs ≡ 0 → xs ≡ []

@@ -4,7 +4,7 @@ use mathlib.Core.Logic.{_⊎_, inl, inr, ⊎-map}
 use mathlib.Core.Bool.{Bool, true, false, _&&_, _||_}
 use Prim.Native.Nat.{ℕ, _≤_, _<_}
 use lib.Dec.{ltb, eqb}
-use borrow.Author.Tests.{ltb-true, ltb-false, eqb-true, eqb-false}
+use borrow.Author.Tests.{ltb-true, ltb-false, eqb-true, eqb-false, eq-eqb}
 
 -- both parts of a passed "and", and the way back
 pub and-left : (a b : Bool) → a && b ≡ true → a ≡ true
@@ -34,6 +34,16 @@ pub or-right : (a b : Bool) → b ≡ true → a || b ≡ true
 or-right true b e = refl
 or-right false b e = e
 
+-- both parts of a failed "or"
+pub neither-left : (a b : Bool) → a || b ≡ false → a ≡ false
+neither-left true b e = e
+neither-left false b e = refl
+
+pub neither-right : (a b : Bool) → a || b ≡ false → b ≡ false
+neither-right true true e = e
+neither-right true false e = refl
+neither-right false b e = e
+
 -- a test passes or fails
 pub passes-or-fails : (a : Bool) → (a ≡ true) ⊎ (a ≡ false)
 passes-or-fails true = inl refl
@@ -48,6 +58,10 @@ pub same-test : (a b : Bool) → (a ≡ true → b ≡ true) → (b ≡ true →
 same-test true b there back = sym (there refl)
 same-test false true there back = back refl
 same-test false false there back = refl
+
+-- numbers are compared either way round
+pub eqb-back : (a b : ℕ) → eqb a b ≡ eqb b a
+eqb-back a b = same-test (eqb a b) (eqb b a) (λ e. eq-eqb b a (sym (eqb-true a b e))) (λ e. eq-eqb a b (sym (eqb-true b a e)))
 
 -- two numbers are equal, or they are not
 pub equal-or-not : (a b : ℕ) → (a ≡ b) ⊎ (a ≡ b → ⊥)

@@ -1,4 +1,4 @@
--- Counting: one thing done at each number in turn, and the laws by which a loop over numbers does it.
+-- Counting: one thing done at each number in turn.
 use Prim.Native.Nat.{ℕ, zero, suc, _+_}
 
 -- f at i, i + 1, .. , n of them, the lowest first

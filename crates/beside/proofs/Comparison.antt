@@ -1,15 +1,15 @@
 -- The comparison of numbers: it passes exactly where the lists are equal, and a loop over them goes number by number.
-use mathlib.Core.Path.{_≡_, refl, sym, ap, ap₂, _∙_}
+use mathlib.Core.Path.{_≡_, refl, ap, ap₂, _∙_}
 use mathlib.Core.Bool.{Bool, true, false, _&&_}
 use mathlib.Core.List.{List, [], _∷_}
 use mathlib.Core.Logic.{_⊎_, inl, inr}
-use Prim.Native.Nat.{ℕ, suc, _+_, _≤_, _<_, min}
+use Prim.Native.Nat.{ℕ, suc, _+_, _≤_, _<_}
 use native.Mathlib.Omega.{arith}
 use lib.Dec.{eqb}
 use lib.ListN.{length, getD, take, drop, drop-of-length-le}
-use lib.Seq.{drop-cons, take-all}
+use lib.Seq.{drop-cons}
 use borrow.Author.Tests.{eqb-true, eq-eqb, ne-eqb}
-use Rattle.basics.proofs.Tests.{and-left, and-right, and-both, passes-or-fails, below-or-not}
+use Rattle.basics.proofs.Tests.{and-left, and-right, and-both, passes-or-fails}
 use Rattle.memory.specs.Lent.{lent}
 use Rattle.beside.specs.Same.{sameNumbers, sameEnds}
 
@@ -56,16 +56,6 @@ module _ (left right : List ℕ) (i : ℕ) (l : i < length left) (r : i < length
 pub same-end : (left right : List ℕ) (i : ℕ) → length left ≤ i → length right ≤ i → sameNumbers (drop i left) (drop i right) ≡ true
 unfolding sameNumbers
 same-end left right i l r = ap₂ sameNumbers (drop-of-length-le left l) (drop-of-length-le right r)
-
--- the first n numbers of a list that has fewer are all of them
-pub take-least : (n : ℕ) (numbers : List ℕ) → take (min n (length numbers)) numbers ≡ take n numbers
-take-least n numbers = by (below-or-not n (length numbers))
-  where
-    by : (n < length numbers) ⊎ (length numbers ≤ n) → take (min n (length numbers)) numbers ≡ take n numbers
-    by (inl low) =
-        let least : min n (length numbers) ≡ n = omega arith in
-        ap (λ (k : ℕ). take k numbers) least
-    by (inr high) = take-all (min n (length numbers)) numbers (omega arith) ∙ sym (take-all n numbers high)
 
 -- the ends, by the cells first
 module _ (live : ℕ) (block-variables block-cells list-variables list-cells : List ℕ) where

@@ -5,10 +5,10 @@ use mathlib.Core.List.{List}
 use Prim.Native.Nat.{ℕ, min}
 use lib.ListN.{length, getD, take}
 use borrow.Author.Tests.{eq-eqb, ne-eqb}
+use Rattle.basics.proofs.Lists.{take-least}
 use Rattle.meaning.specs.Machine.{Contents}
 use Rattle.meaning.specs.Calls.{ListMade, makeListCall, Ran, runBlockCall, runListCall}
 use Rattle.beside.specs.Beside.{listRun, compared, bothAlike, beside, sideBySide}
-use Rattle.beside.proofs.Comparison.{take-least}
 
 module _ (bytes : List ℕ) (status : ℕ) (list : List ℕ) (m : Contents) where
   pub is-run : status ≡ 0 → listRun bytes status list m ≡ runListCall bytes list m

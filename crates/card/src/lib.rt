@@ -6,7 +6,7 @@ ghost use Prim.Native.Nat.{_+_, _<_};
 ghost use mathlib.Core.Bool.{true};
 ghost use lib.ListN.{getD, set};
 ghost use Rattle.meaning.specs.Machine.{cellAt, fetch as fetched};
-ghost use Rattle.meaning.specs.Card.{row, operateLanes};
+ghost use Rattle.meaning.specs.Card.{operateLanes};
 ghost use Rattle.memory.specs.Lent.{lent};
 ghost use Rattle.card.specs.Registers.{held, blank, holding, rowStored};
 ghost use Rattle.card.specs.Step.{writes, lanesAfter, contentsAfter};

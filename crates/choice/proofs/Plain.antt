@@ -8,13 +8,11 @@ use lib.Seq.{length-sets}
 use Rattle.basics.specs.Counting.{count}
 use Rattle.basics.proofs.Counting.{count-both}
 use Rattle.meaning.specs.declared.Statement.{Statement}
-use Rattle.meaning.specs.declared.Place.{Place}
-use Rattle.meaning.specs.declared.Place.the-variants.{Variable, Cell}
-use Rattle.meaning.specs.declared.Operand.{Operand}
-use Rattle.meaning.specs.declared.Operand.the-variants.{Nothing, Constant, Held}
-use Rattle.meaning.specs.Block.{Block, statement, statementPrice, cellPlace, cellOperand}
+use Rattle.meaning.specs.Block.{Block, statement}
 use Rattle.meaning.specs.List.{Instruction, S, recordsBytes, listPrice}
 use Rattle.meaning.specs.Choice.{plainFrom, plainList}
+use Rattle.meaning.proofs.Lengths.{plain-length}
+use Rattle.meaning.proofs.Bounds.{statement-price}
 use Rattle.facts.specs.Facts.{factAt}
 use Rattle.facts.specs.Tied.{Stated}
 use Rattle.encode.specs.Records.{Listing, listing, writeS, nothingWritten, writeHeader}
@@ -30,30 +28,14 @@ plain-behind (suc n) i =
     let e : i + suc n ≡ i + 1 + n = omega arith in
     ap (λ (list : List Instruction). S i ∷ list) (ap (λ (s : ℕ). plainFrom n (i + 1) ++ S s ∷ []) e ∙ plain-behind n (i + 1))
 
-plain-length : (n i : ℕ) → length (plainFrom n i) ≡ n
-plain-length zero i = refl
-plain-length (suc n) i = ap suc (plain-length n (i + 1))
-
 plain-records : (n i : ℕ) → length (recordsBytes (plainFrom n i)) ≡ 3 * n
 plain-records zero i = refl
 plain-records (suc n) i = omega (arith, plain-records n (i + 1))
 
-one-cell : (p : Place) → cellPlace p ≤ 1
-one-cell (Variable v) = omega arith
-one-cell (Cell a i) = omega arith
-
-few-cells : (o : Operand) → cellOperand o ≤ 1
-few-cells Nothing = omega arith
-few-cells (Constant c) = omega arith
-few-cells (Held p) = one-cell p
-
-price-small : (s : Statement) → statementPrice s ≤ 4
-price-small s = omega (arith, few-cells (s .left), few-cells (s .right), one-cell (s .destination))
-
 plain-price : (ss : List Statement) (n i : ℕ) → listPrice ss (plainFrom n i) ≤ 4 * n
 unfolding listPrice
 plain-price ss zero i = omega arith
-plain-price ss (suc n) i = omega (arith, price-small (statement ss i), plain-price ss n (i + 1))
+plain-price ss (suc n) i = omega (arith, statement-price (statement ss i), plain-price ss n (i + 1))
 
 plain-short : (ss : List Statement) (n : ℕ) → n ≤ 64 → Short ss (plainFrom n 0)
 plain-short ss n few =

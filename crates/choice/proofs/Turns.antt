@@ -1,5 +1,5 @@
 -- The turns of the loop that writes S for every statement: how it starts, goes on and ends.
-use mathlib.Core.Path.{_≡_, refl, sym, ap, ap₂, _∙_}
+use mathlib.Core.Path.{_≡_, sym, ap, ap₂, _∙_}
 use Prim.Native.Nat.{ℕ, _-_}
 use mathlib.Core.List.{List}
 use native.Mathlib.Omega.{arith}

@@ -1,5 +1,5 @@
 -- Operands by their codes: the same operand, the place that it names, cells in a row, constants, and what kind of operand it is.
-use mathlib.Core.Path.{_≡_, refl, ap}
+use mathlib.Core.Path.{_≡_, refl}
 use mathlib.Core.Bool.{true, false, _&&_}
 use Prim.Native.Nat.{ℕ, _+_, _*_}
 use native.Mathlib.Omega.{arith}
@@ -14,7 +14,7 @@ use Rattle.meaning.specs.Emission.{sameOperand}
 use Rattle.codes.specs.Codes.{placeCode, operandCode, codesInRow, isCellCode, isConstantCode, isVariableCode, cellCode}
 use Rattle.codes.specs.Fitting.{placeFits, operandFits}
 use Rattle.codes.proofs.Equal.{together, never}
-use Rattle.codes.proofs.Places.{from-two, below-2569, same-codes, row-codes, cells-of-place, place-of-code, place-not-constant}
+use Rattle.codes.proofs.Places.{from-two, below-2569, same-codes, row-codes, cells-of-place, place-not-constant}
 
 pub name-codes : (o : Operand) (p : Place) → operandFits o ≡ true → placeFits p ≡ true → names o p ≡ eqb (operandCode o) (placeCode p)
 name-codes Nothing p f g = never 0 (placeCode p) (λ (e : 0 ≡ placeCode p). omega (arith, from-two p))
@@ -51,20 +51,6 @@ operands-row (Held p) (Constant d) f g =
     never (operandCode (Constant d)) (placeCode p + 1) (λ (e : 4294967296 + 2 * d ≡ placeCode p + 1). omega (arith, below-2569 p f))
 operands-row (Held p) (Held q) f g = row-codes p q f g
 
--- operands that have the same code are the same
-pub operand-of-code : (o q : Operand) → operandFits o ≡ true → operandFits q ≡ true → operandCode o ≡ operandCode q → o ≡ q
-operand-of-code Nothing Nothing f g e = refl
-operand-of-code Nothing (Constant d) f g e = absurd (omega arith)
-operand-of-code Nothing (Held q) f g e = absurd (omega (arith, from-two q))
-operand-of-code (Constant c) Nothing f g e = absurd (omega arith)
-operand-of-code (Constant c) (Constant d) f g e =
-    let words : c ≡ d = omega arith in
-    rw words
-operand-of-code (Constant c) (Held q) f g e = absurd (omega (arith, below-2569 q g))
-operand-of-code (Held p) Nothing f g e = absurd (omega (arith, from-two p))
-operand-of-code (Held p) (Constant d) f g e = absurd (omega (arith, below-2569 p f))
-operand-of-code (Held p) (Held q) f g e = ap (λ (r : Place). Held r) (place-of-code p q f g e)
-
 -- the kinds of what is held are those of its place; of the others:
 pub constant-is-constant : (c : ℕ) → isConstantCode (operandCode (Constant c)) ≡ true
 constant-is-constant c = le-leb 4294967296 (4294967296 + 2 * c) (omega arith)
@@ -74,15 +60,6 @@ constant-not-cell c = rw (le-leb 514 (4294967296 + 2 * c) (omega arith), le-ltb 
 
 pub constant-not-variable : (c : ℕ) → isVariableCode (operandCode (Constant c)) ≡ false
 constant-not-variable c = rw (le-leb 2 (4294967296 + 2 * c) (omega arith), le-ltb (4294967296 + 2 * c) 514 (omega arith))
-
-pub nothing-not-constant : isConstantCode (operandCode Nothing) ≡ false
-nothing-not-constant = refl
-
-pub nothing-not-cell : isCellCode (operandCode Nothing) ≡ false
-nothing-not-cell = refl
-
-pub nothing-not-variable : isVariableCode (operandCode Nothing) ≡ false
-nothing-not-variable = refl
 
 pub cells-of-operand : (o : Operand) → operandFits o ≡ true → cellOperand o ≡ cellCode (operandCode o)
 cells-of-operand Nothing f = refl

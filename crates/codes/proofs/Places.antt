@@ -61,20 +61,6 @@ row-codes (Cell a i) (Cell b j) f g =
     (λ (e : 514 + 257 * b + j ≡ 514 + 257 * a + i + 1). omega arith)
     (λ (e : 514 + 257 * b + j ≡ 514 + 257 * a + i + 1). omega arith)
 
--- places that have the same code are the same
-pub place-of-code : (p q : Place) → placeFits p ≡ true → placeFits q ≡ true → placeCode p ≡ placeCode q → p ≡ q
-place-of-code (Variable v) (Variable w) f g e =
-    let numbers : v ≡ w = omega arith in
-    rw numbers
-place-of-code (Variable v) (Cell b j) f g e = absurd (omega (arith, variable-fits v f))
-place-of-code (Cell a i) (Variable w) f g e = absurd (omega (arith, variable-fits w g))
-place-of-code (Cell a i) (Cell b j) f g e =
-    let small-i = index-fits a i f in
-    let small-j = index-fits b j g in
-    let arrays : a ≡ b = omega arith in
-    let indices : i ≡ j = omega arith in
-    rw (arrays, indices)
-
 -- the kinds
 pub variable-code : (p : Place) → placeFits p ≡ true → isVariableCode (placeCode p) ≡ isVariable p
 variable-code (Variable v) f =

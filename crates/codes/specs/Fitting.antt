@@ -1,5 +1,5 @@
 -- The statements that have codes: what reading a block promises of its numbers.
-use Prim.Native.Nat.{ℕ, _^_}
+use Prim.Native.Nat.{_^_}
 use mathlib.Core.Bool.{Bool, true, _&&_}
 use lib.Dec.{ltb}
 use Rattle.meaning.specs.declared.Place.{Place}

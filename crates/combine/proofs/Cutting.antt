@@ -1,16 +1,12 @@
 -- The loops over the tables of pairs and rows add the units of "Combination": of each chain its units from the left end, chain after chain.
 use mathlib.Core.Path.{_≡_, refl, sym, ap, subst, _∙_}
-use mathlib.Core.Logic.{_⊎_, inl, inr}
 use mathlib.Core.Bool.{Bool, true, false, _&&_}
 use mathlib.Core.Option.{none, some}
 use mathlib.Core.List.{List, [], _∷_, _++_, append-nil}
-use Prim.Native.Nat.{ℕ, zero, suc, _+_, _≤_, _<_}
+use Prim.Native.Nat.{ℕ, zero, suc, _≤_, _<_}
 use native.Mathlib.Omega.{arith}
 use lib.ListN.{length, getD}
 use Rattle.basics.specs.Choice.{pick}
-use Rattle.basics.specs.Lists.{each}
-use Rattle.basics.specs.Sets.{has}
-use Rattle.basics.proofs.Tests.{below-or-not}
 use Rattle.basics.proofs.Counting.{count-both}
 use Rattle.basics.proofs.Finding.{each-append}
 use Rattle.meaning.specs.declared.Statement.{Statement}
@@ -18,8 +14,8 @@ use Rattle.meaning.specs.Dependence.{independent}
 use Rattle.meaning.specs.Pairs.{Pair, isRight, partner, chain}
 use Rattle.meaning.specs.Combination.{pairwise, cut, combine}
 use Rattle.theorems.specs.Units.{Every, occurs}
-use Rattle.theorems.proofs.Occurs.{every-weaker, occurs-range, fewer}
-use Rattle.theorems.proofs.Orders.{numbers, numbers-inside, length-numbers}
+use Rattle.theorems.proofs.Occurs.{every-weaker}
+use Rattle.theorems.proofs.Orders.{few-numbers}
 use Rattle.theorems.proofs.Totals.{total-term}
 use Rattle.theorems.proofs.Chains.{Chain, ends, goes, chain-long}
 use Rattle.theorems.proofs.Pairs.{Admitted, inChain, chain-range}
@@ -190,22 +186,11 @@ module _ (ss : List Statement) (pairs : List Pair) (direct reached next : List �
   -- a longest chain has no statement twice, so no more statements than the block
   chain-few : (s : ℕ) → s < length ss → isRight pairs s ≡ false → length (chain pairs s) ≤ length ss
   chain-few s below starts =
-      omega (arith, fewer (chain pairs s) (numbers (length ss) 0) (λ t. within t (below-or-not t (length ss))), length-numbers (length ss) 0)
+      few-numbers (length ss) (chain pairs s) (chain-range ss (known .sound) (known .whole s below starts) below)
+      (λ t h. omega (arith, total-term (inChain pairs t) (length ss) s below, known .partition t h, in-chain t))
     where
       in-chain : (t : ℕ) → inChain pairs t s ≡ occurs t (chain pairs s)
       in-chain t = rw starts
-
-      within : (t : ℕ) → (t < length ss) ⊎ (length ss ≤ t) → occurs t (chain pairs s) ≤ occurs t (numbers (length ss) 0)
-      within t (inl h) =
-          omega (
-            arith,
-            total-term (inChain pairs t) (length ss) s below,
-            known .partition t h,
-            in-chain t,
-            numbers-inside (length ss) 0 t (omega arith) (omega arith),
-          )
-      within t (inr h) =
-          omega (arith, occurs-range (length ss) (chain pairs s) (chain-range ss (known .sound) (known .whole s below starts) below) t h)
 
   -- The units of all longest chains are added.
   pub combined-adds : (t : Tables) → combined (length ss) reached direct next rights t ≡ adds direct (combine ss pairs) t

@@ -15,11 +15,12 @@ use Rattle.meaning.specs.declared.Statement.{Statement}
 use Rattle.meaning.specs.Schedule.{lowest}
 use Rattle.theorems.specs.Units.{Every, occurs, Fits}
 use Rattle.theorems.proofs.Occurs.{every-at}
+use Rattle.theorems.proofs.Units.{fits-filled}
 use Rattle.theorems.proofs.Waiting.{In, sums, sums-in, every-in, lowest-in}
 use Rattle.units.specs.Words.{unitWord}
 use Rattle.units.specs.Waiting.{neededBy, Waits}
 use Rattle.units.specs.Lanes.{lanesOf, neededLanes, memberLane}
-use Rattle.units.proofs.Lanes.{Laned, one, two, four, fits-laned, lowest-lane, lowest-small, member-only, needed-lanes}
+use Rattle.units.proofs.Lanes.{fits-laned, lowest-lane, lowest-small, member-only, needed-lanes}
 use Rattle.combine.specs.Cutting.{Tables, tables, waitIn}
 
 -- the units added, the first one first
@@ -50,16 +51,8 @@ marks-has (u ∷ us) waiting s =
     ∙ or-assoc (has waiting s) (eqb (lowest u) s) (any (λ unit. eqb (lowest unit) s) us)
 
 module _ (ss : List Statement) (small : length ss ≤ 64) where
-  fits-filled : (unit : List ℕ) → Fits ss unit → 0 < length unit
-  fits-filled unit fits = filled (fits-laned ss unit small fits)
-    where
-      filled : {xs : List ℕ} → Laned xs → 0 < length xs
-      filled (one ha) = omega arith
-      filled (two ha hb) = omega arith
-      filled (four ha hb hc hd) = omega arith
-
   lowest-below : (unit : List ℕ) → Fits ss unit → lowest unit < length ss
-  lowest-below unit fits = every-at (λ s. s < length ss) unit (fits .in-range) (lowest unit) (lowest-in unit (fits-filled unit fits))
+  lowest-below unit fits = every-at (λ s. s < length ss) unit (fits .in-range) (lowest unit) (lowest-in unit (fits-filled ss unit fits))
 
   -- units with no statement in common go by different numbers, so each finds its value
   stores-own : (value : List ℕ → ℕ) (units : List (List ℕ)) (table : List ℕ) → Every (Fits ss) units → length ss ≤ length table
@@ -77,9 +70,9 @@ module _ (ss : List Statement) (small : length ss ≤ 64) where
           omega (
             arith,
             once (lowest u) (lowest-below u (fit .0)),
-            lowest-in u (fits-filled u (fit .0)),
+            lowest-in u (fits-filled ss u (fit .0)),
             ap (λ (x : ℕ). occurs x v) same,
-            lowest-in v (fits-filled v (every-in (Fits ss) us v (fit .1) there)),
+            lowest-in v (fits-filled ss v (every-in (Fits ss) us v (fit .1) there)),
             sums-in (occurs (lowest u)) us v there,
           )
   stores-own value (u ∷ us) table fit long once unit (inr there) =

@@ -11,18 +11,18 @@ use Rattle.basics.specs.Choice.{pick}
 use Rattle.basics.specs.Lists.{all}
 use Rattle.basics.proofs.Tests.{and-left, and-right, and-both}
 use Rattle.basics.proofs.Parts.{all-at}
-use Rattle.meaning.specs.declared.Place.{Place}
-use Rattle.meaning.specs.declared.Place.the-variants.{Variable, Cell}
 use Rattle.meaning.specs.declared.Operand.{Operand}
 use Rattle.meaning.specs.declared.Operand.the-variants.{Held}
 use Rattle.meaning.specs.declared.Statement.{Statement}
-use Rattle.meaning.specs.Block.{statement, blank, isCopy, cellPlace, left, right}
+use Rattle.meaning.specs.Block.{statement, blank, isCopy, left, right}
 use Rattle.meaning.specs.Format.{isOperand, wellFormed}
 use Rattle.meaning.specs.List.{lanesFit}
 use Rattle.meaning.specs.Emission.{tupleAt, destinations, operationOf}
+use Rattle.meaning.proofs.Bounds.{place-cells}
 use Rattle.theorems.specs.Units.{Every}
 use Rattle.codes.specs.Codes.{operandCode}
 use Rattle.codes.specs.Fitting.{placeFits, operandFits, statementFits}
+use Rattle.codes.proofs.Fits.{destination-fits, left-fits, right-fits}
 use Rattle.facts.specs.Facts.{factAt}
 use Rattle.facts.specs.Tied.{Stated}
 use Rattle.units.specs.Lanes.{lanesOf}
@@ -38,24 +38,7 @@ pub record Known (ss : List Statement) (facts : List ℕ) : Type 0 where
   pub formed : all wellFormed ss ≡ true
   pub few : length ss ≤ 64
 
-pub one-place : (p : Place) → cellPlace p ≤ 1
-one-place (Variable v) = omega arith
-one-place (Cell a i) = omega arith
-
 module _ (ss : List Statement) (facts : List ℕ) (known : Known ss facts) where
-  fits-at : (s : ℕ) → s < length ss → statementFits (statement ss s) ≡ true
-  fits-at s below = all-at statementFits ss s blank (known .fit) below
-
-  pub destination-fits : (s : ℕ) → s < length ss → placeFits (statement ss s .destination) ≡ true
-  destination-fits s below = and-left (placeFits (statement ss s .destination)) _ (fits-at s below)
-
-  pub left-fits : (s : ℕ) → s < length ss → operandFits (statement ss s .left) ≡ true
-  left-fits s below = and-left (operandFits (statement ss s .left)) _ (and-right (placeFits (statement ss s .destination)) _ (fits-at s below))
-
-  pub right-fits : (s : ℕ) → s < length ss → operandFits (statement ss s .right) ≡ true
-  right-fits s below =
-      and-right (operandFits (statement ss s .left)) _ (and-right (placeFits (statement ss s .destination)) _ (fits-at s below))
-
   formed-at : (s : ℕ) → s < length ss → wellFormed (statement ss s) ≡ true
   formed-at s below = all-at wellFormed ss s blank (known .formed) below
 
@@ -98,7 +81,7 @@ module _ (ss : List Statement) (facts : List ℕ) (known : Known ss facts) where
   lefts-fetchable unit shape range =
       record {
         lanes = lanes-kept (λ s. statement ss s .left) unit shape;
-        fit = tuple-all (λ s. statement ss s .left) operandFits left-fits unit range;
+        fit = tuple-all (λ s. statement ss s .left) operandFits (left-fits ss (known .fit)) unit range;
         there = tuple-all (λ s. statement ss s .left) isOperand left-there unit range;
       }
 
@@ -108,19 +91,19 @@ module _ (ss : List Statement) (facts : List ℕ) (known : Known ss facts) where
   rights-fetchable unit shape range one other =
       record {
         lanes = lanes-kept (λ s. statement ss s .right) unit shape;
-        fit = tuple-all (λ s. statement ss s .right) operandFits right-fits unit range;
+        fit = tuple-all (λ s. statement ss s .right) operandFits (right-fits ss (known .fit)) unit range;
         there = rights-there (operationOf ss unit) unit range one other;
       }
 
   pub destinations-fit : (unit : List ℕ) → Every (λ s. s < length ss) unit → all operandFits (destinations ss unit) ≡ true
-  destinations-fit unit range = tuple-all (λ s. Held (statement ss s .destination)) operandFits destination-fits unit range
+  destinations-fit unit range = tuple-all (λ s. Held (statement ss s .destination)) operandFits (destination-fits ss (known .fit)) unit range
 
   pub destinations-laned : (unit : List ℕ) → Laned unit → lanesFit (length (destinations ss unit)) ≡ true
   destinations-laned unit shape = lanes-kept (λ s. Held (statement ss s .destination)) unit shape
 
   pub places-fit : (unit : List ℕ) → Every (λ s. s < length ss) unit → all placeFits (map (λ s. statement ss s .destination) unit) ≡ true
   places-fit [] range = refl
-  places-fit (s ∷ unit) range = and-both (placeFits (statement ss s .destination)) _ (destination-fits s (range .0)) (places-fit unit (range .1))
+  places-fit (s ∷ unit) range = and-both (placeFits (statement ss s .destination)) _ (destination-fits ss (known .fit) s (range .0)) (places-fit unit (range .1))
 
   -- the codes of a unit's operands in one column
   column-tuple : (column : ℕ) (take-from : ℕ → Operand) → ((s : ℕ) → s < length ss → factAt facts column s ≡ operandCode (take-from s))
@@ -141,7 +124,7 @@ module _ (ss : List Statement) (facts : List ℕ) (known : Known ss facts) where
   -- "The statements of a pack have one operation": the sort has it above the kind of destination
   sort-operation : (s : ℕ) → s < length ss → factAt facts 192 s / 2 % 256 ≡ statement ss s .operation
   sort-operation s below =
-      omega (arith, known .stated .sorts s below, operation-small s below, one-place (statement ss s .destination))
+      omega (arith, known .stated .sorts s below, operation-small s below, place-cells (statement ss s .destination))
 
   pub sort-column : (unit : List ℕ) → Laned unit → Every (λ s. s < length ss) unit → operationIn facts (lanesOf unit) ≡ operationOf ss unit
   sort-column unit (two a b) range = sort-operation a (range .0)

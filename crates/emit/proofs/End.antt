@@ -19,7 +19,7 @@ use Rattle.theorems.proofs.Readable.{Readable}
 use Rattle.theorems.proofs.ListRoundTrip.{ListFits, list-length}
 use Rattle.theorems.proofs.Steps.{finished, emission-steps}
 use Rattle.theorems.proofs.Limits.{Sound, sound}
-use Rattle.theorems.proofs.Lawful.{units-size}
+use Rattle.theorems.proofs.Units.{units-size}
 use Rattle.codes.specs.Codes.{placeCode}
 use Rattle.facts.specs.Tied.{Names}
 use Rattle.units.specs.Words.{InOrder}

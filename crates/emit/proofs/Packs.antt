@@ -11,18 +11,19 @@ use lib.ListN.{length, length-append, length-map}
 use Rattle.basics.specs.Choice.{pick}
 use Rattle.basics.specs.Lists.{all}
 use Rattle.basics.specs.Sets.{join}
-use Rattle.meaning.specs.declared.Place.{Place}
 use Rattle.meaning.specs.declared.Operand.{Operand}
 use Rattle.meaning.specs.declared.Operand.the-variants.{Held}
 use Rattle.meaning.specs.declared.Statement.{Statement}
 use Rattle.meaning.specs.Block.{statement, left, right}
 use Rattle.meaning.specs.List.{O}
 use Rattle.meaning.specs.Schedule.{withUnit}
-use Rattle.meaning.specs.Emission.{Register, Emitted, ended, rowStart, next, tupleAt, destinations, fetchTuple, fetchedIn, fetchRight, rightIn, operationOf, emitOperation, operated, storeTuple as storeAll, homesFrom, landed, emitPack}
+use Rattle.meaning.specs.Emission.{Emitted, rowStart, next, tupleAt, destinations, fetchTuple, fetchedIn, fetchRight, rightIn, operationOf, emitOperation, operated, storeTuple as storeAll, homesFrom, landed, emitPack}
 use Rattle.theorems.specs.Units.{Every}
 use Rattle.theorems.specs.Steps.{holding, placesOf, stores, endedBy, awayFrom}
 use Rattle.theorems.proofs.Landing.{each-written, tuple-stored}
+use Rattle.theorems.proofs.Simulation.{destinations-held, ended-length}
 use Rattle.codes.specs.Codes.{placeCode}
+use Rattle.codes.proofs.Fits.{destination-fits}
 use Rattle.facts.specs.Tied.{Names}
 use Rattle.units.specs.Lanes.{lanesOf, memberLanes}
 use Rattle.encode.proofs.Encoding.{shorter, record-listed}
@@ -36,7 +37,7 @@ use Rattle.fetch.specs.Fetching.{State, Got, got, loadState, holderIn, fetchSta
 use Rattle.fetch.proofs.Standing.{Small, Standing, Stands, before-fetch}
 use Rattle.fetch.proofs.Fetching.{fetch-standing}
 use Rattle.emit.specs.Emitting.{operationIn, operatedFrom, operatedState, landedFrom, emitPackState}
-use Rattle.emit.proofs.Columns.{Known, destination-fits, lefts-fetchable, rights-fetchable, destinations-fit, destinations-laned, places-fit, left-column, right-column, destination-column, sort-column}
+use Rattle.emit.proofs.Columns.{Known, lefts-fetchable, rights-fetchable, destinations-fit, destinations-laned, places-fit, left-column, right-column, destination-column, sort-column}
 use Rattle.emit.proofs.Storing.{stored-listed, shorter-front}
 
 -- what a pack leaves behind its O
@@ -67,14 +68,6 @@ pack-is ss unit e =
       homes = awayFrom (placesOf ss unit) (x .homes) ++ homesFrom (next x) 0 (destinations ss unit);
     })
     (tuple-stored (next o) (destinations ss unit) o)
-
-ended-length : (ps : List Place) (registers : List Register) → length (endedBy ps registers) ≡ length registers
-ended-length [] registers = refl
-ended-length (p ∷ ps) registers = ended-length ps (map (ended p) registers) ∙ length-map registers (ended p)
-
-destinations-held : (ss : List Statement) (unit : List ℕ) → map Held (placesOf ss unit) ≡ destinations ss unit
-destinations-held ss [] = refl
-destinations-held ss (s ∷ unit) = ap (λ (rest : List Operand). Held (statement ss s .destination) ∷ rest) (destinations-held ss unit)
 
 land-is : (ss : List Statement) (unit : List ℕ) (r : ℕ) (table : List ℕ) → Laned unit
     → landPlaces r 0 (placesOf ss unit) table ≡ landTuple (tupleOf (destinations ss unit)) r table
@@ -201,14 +194,14 @@ module _ (base : List ℕ) (ss : List Statement) (facts numbers writers : List �
           → Standing base ss (emitOperation operation (length unit) (fetchedIn l e) (rightIn copy r (fetchTuple l e)) (fetchRight copy r (fetchTuple l e)))
           (operatedWith (tupleOf l) (tupleOf r) operation (length unit) s)
       by true c k =
-          let f = fetch-standing base ss numbers writers named (destination-fits ss facts known) l e s (lefts-fetchable ss facts known unit shape range) h (before-operation none (fetchTuple l e) k) in
+          let f = fetch-standing base ss numbers writers named (destination-fits ss (known .fit)) l e s (lefts-fetchable ss facts known unit shape range) h (before-operation none (fetchTuple l e) k) in
           rw (right-copy numbers writers (tupleOf r) operation (taken .after) c, f .register)
           (operation-standing base ss operation (length unit) (fetchedIn l e) none (fetchTuple l e) (got (taken .after) 0) c (f .after) k)
       by false c k =
           let rb = some (fetchedIn r (fetchTuple l e)) in
           let k2 = before-operation rb (fetchTuple r (fetchTuple l e)) k in
-          let f = fetch-standing base ss numbers writers named (destination-fits ss facts known) l e s (lefts-fetchable ss facts known unit shape range) h (before-fetch ss r (fetchTuple l e) k2) in
-          let g = fetch-standing base ss numbers writers named (destination-fits ss facts known) r (fetchTuple l e) (taken .after) (rights-fetchable ss facts known unit shape range one c) (λ small-then. f .after) k2 in
+          let f = fetch-standing base ss numbers writers named (destination-fits ss (known .fit)) l e s (lefts-fetchable ss facts known unit shape range) h (before-fetch ss r (fetchTuple l e) k2) in
+          let g = fetch-standing base ss numbers writers named (destination-fits ss (known .fit)) r (fetchTuple l e) (taken .after) (rights-fetchable ss facts known unit shape range one c) (λ small-then. f .after) k2 in
           rw (right-other numbers writers (tupleOf r) operation (taken .after) c, f .register)
           (operation-standing base ss operation (length unit) (fetchedIn l e) rb (fetchTuple r (fetchTuple l e)) (fetchState numbers writers (tupleOf r) (taken .after)) (c, g .register) (g .after) k)
 
@@ -224,7 +217,7 @@ module _ (base : List ℕ) (ss : List Statement) (facts numbers writers : List �
       let stay : Homes (awayFrom ps (o .homes) ++ homesFrom (next o) 0 (map Held ps)) (landPlaces (next o) 0 ps (t .lanes .homes)) =
       homes-landed (next o) ps (o .homes) (t .lanes .homes) few (omega (arith, length-map unit (λ s. statement ss s .destination), lanes-few shape)) (places-fit ss facts known unit range) (st .lanes .homes) in
       let more : Registers ss (withUnit unit (t .done)) (endedBy ps (o .registers) ++ holding d ∷ []) (holdTuple numbers writers (tupleOf d) (withUnit unit (t .done)) (length (endedBy ps (o .registers))) (t .registers)) =
-      registers-more ss numbers writers named (destination-fits ss facts known) (withUnit unit (t .done)) d (endedBy ps (o .registers)) (t .registers)
+      registers-more ss numbers writers named (destination-fits ss (known .fit)) (withUnit unit (t .done)) d (endedBy ps (o .registers)) (t .registers)
       (destinations-laned ss facts known unit shape) (destinations-fit ss facts known unit range) (omega (arith, ended-length ps (o .registers)))
       (registers-ended-by ss unit (t .done) (o .registers) (t .registers) pending (st .registers)) in
       record {
@@ -233,7 +226,7 @@ module _ (base : List ℕ) (ss : List Statement) (facts numbers writers : List �
               list =
                   rw (st .used)
                   (stored-listed base ss (next o) d o (t .lanes .list) (laned d (destinations-laned ss facts known unit shape)) (destinations-fit ss facts known unit range) (st .lanes .list) (small .short));
-              homes = rw (st .used, ← land-is ss unit (next o) (t .lanes .homes) shape, ← destinations-held ss unit) stay;
+              homes = rw (st .used, ← land-is ss unit (next o) (t .lanes .homes) shape, destinations-held ss unit) stay;
             };
         registers = rw (joined, st .used, ← ended-length ps (o .registers)) more;
         used = omega (arith, size, st .used, few);

@@ -9,26 +9,20 @@ use Rattle.basics.specs.Lists.{all, sum}
 use Rattle.basics.proofs.Tests.{and-left}
 use Rattle.basics.proofs.Parts.{all-first, all-others}
 use Rattle.meaning.specs.declared.Operand.{Operand}
-use Rattle.meaning.specs.declared.Operand.the-variants.{Nothing, Constant, Held}
 use Rattle.meaning.specs.declared.Statement.{Statement}
 use Rattle.meaning.specs.Block.{statement, cellOperand}
 use Rattle.meaning.specs.Format.{isOperand}
 use Rattle.meaning.specs.List.{Instruction, S, L, C, G, O, W, D, X, instructionPrice, listPrice, lanesFit}
+use Rattle.meaning.proofs.Bounds.{operand-cells, statement-price}
 use Rattle.theorems.proofs.Instructions.{instructionFits}
 use Rattle.registers.proofs.Laned.{Laned, two, four, laned}
-use Rattle.emit.proofs.Columns.{one-place}
-
-one-operand : (o : Operand) → cellOperand o ≤ 1
-one-operand Nothing = omega arith
-one-operand (Constant c) = omega arith
-one-operand (Held p) = one-place p
 
 gather-cheap : (os : List Operand) → Laned os → length os + sum (map cellOperand os) ≤ 8
-gather-cheap os (two a b) = omega (arith, one-operand a, one-operand b)
-gather-cheap os (four a b c d) = omega (arith, one-operand a, one-operand b, one-operand c, one-operand d)
+gather-cheap os (two a b) = omega (arith, operand-cells a, operand-cells b)
+gather-cheap os (four a b c d) = omega (arith, operand-cells a, operand-cells b, operand-cells c, operand-cells d)
 
 instruction-cheap : (ss : List Statement) (i : Instruction) → instructionFits i ≡ true → instructionPrice ss i ≤ 8
-instruction-cheap ss (S s) fits = omega (arith, one-operand (statement ss s .left), one-operand (statement ss s .right), one-place (statement ss s .destination))
+instruction-cheap ss (S s) fits = omega (arith, statement-price (statement ss s))
 instruction-cheap ss (L r k a i) fits = omega arith
 instruction-cheap ss (C r cs) fits = omega arith
 instruction-cheap ss (G r os) fits =

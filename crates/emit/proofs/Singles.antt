@@ -12,6 +12,7 @@ use Rattle.meaning.specs.List.{S}
 use Rattle.meaning.specs.Emission.{Emitted, ended, written, extractOperand, emitSingle}
 use Rattle.theorems.proofs.Steps.{operand-registers}
 use Rattle.codes.specs.Codes.{placeCode, operandCode}
+use Rattle.codes.proofs.Fits.{destination-fits, left-fits, right-fits}
 use Rattle.units.specs.Lanes.{lanesOf, memberLanes}
 use Rattle.encode.specs.Records.{writeS}
 use Rattle.encode.proofs.Encoding.{shorter, record-listed}
@@ -22,7 +23,7 @@ use Rattle.lanes.proofs.Extraction.{operand-stepped}
 use Rattle.fetch.specs.Fetching.{State}
 use Rattle.fetch.proofs.Standing.{Stands, operand-shorter}
 use Rattle.emit.specs.Emitting.{emitSingleState}
-use Rattle.emit.proofs.Columns.{Known, destination-fits, left-fits, right-fits}
+use Rattle.emit.proofs.Columns.{Known}
 
 module _ (base : List ℕ) (ss : List Statement) (facts : List ℕ) (known : Known ss facts) where
   abbrev extracted : ℕ → State → InLanes
@@ -68,15 +69,15 @@ module _ (base : List ℕ) (ss : List Statement) (facts : List ℕ) (known : Kno
       let short1 = operand-shorter ss (statement ss s .right) e1 short2 in
       let st = h (record { short = operand-shorter ss (statement ss s .left) e short1; few = omega (arith, small .few, length-map (e2 .registers) (ended d), ap length same) }) in
       let stepped =
-      operand-stepped base ss (statement ss s .right) e1 l1 (right-fits ss facts known s below)
-      (operand-stepped base ss (statement ss s .left) e (t .lanes) (left-fits ss facts known s below) (λ short. st .lanes))
+      operand-stepped base ss (statement ss s .right) e1 l1 (right-fits ss (known .fit) s below)
+      (operand-stepped base ss (statement ss s .left) e (t .lanes) (left-fits ss (known .fit) s below) (λ short. st .lanes))
       short2 in
       rw (single-is s t below members)
       (record {
         lanes =
             record {
               list = record-listed base ss (e2 .instructions) (l2 .list) (S s) (stepped .list) (small .short);
-              homes = homes-dropped d (e2 .homes) (l2 .homes) (destination-fits ss facts known s below) (stepped .homes);
+              homes = homes-dropped d (e2 .homes) (l2 .homes) (destination-fits ss (known .fit) s below) (stepped .homes);
             };
         registers = rw same (registers-ended ss (t .done) s (e .registers) (t .registers) below pending (st .registers));
         used = st .used ∙ ap length (sym same) ∙ sym (length-map (e2 .registers) (ended d));

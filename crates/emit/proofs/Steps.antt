@@ -10,6 +10,7 @@ use borrow.Author.Tests.{lt-ltb, le-ltb}
 use Rattle.basics.specs.Counting.{count}
 use Rattle.basics.specs.Sets.{join}
 use Rattle.basics.proofs.Counting.{count-more}
+use Rattle.basics.proofs.Parts.{picked, left-out}
 use Rattle.facts.specs.Facts.{factAt}
 use Rattle.units.specs.declared.Unit.{Unit as Lanes}
 use Rattle.units.specs.Lanes.{lane, wordLanes, memberLanes}
@@ -17,7 +18,6 @@ use Rattle.registers.specs.declared.Tuple.{Tuple}
 use Rattle.registers.specs.Table.{tupleLane, holdTuple}
 use Rattle.encode.specs.declared.Written.{Written}
 use Rattle.encode.specs.Records.{Listing, listing, writeS, writeCells, writeO, nothingWritten, writeHeader, headed}
-use Rattle.encode_lanes.proofs.Steps.{picked, left-out}
 use Rattle.lanes.specs.Homes.{InLanes, inLanes, setHome, landTuple, extractCode, extractLive}
 use Rattle.fetch.specs.declared.Emitted.{Emitted}
 use Rattle.fetch.specs.declared.Fetched.{Fetched}

@@ -2,7 +2,6 @@
 
 ghost use mathlib.Core.Path.{_≡_};
 ghost use Rattle.encode.specs.Records.{listing};
-ghost use Rattle.lanes.specs.Homes.{inLanes};
 ghost use Rattle.fetch.specs.Fetching.{state};
 ghost use Rattle.emit.specs.Emitting.{emitSingleState, storeCode, storeTuple, operationIn, operatedState, emitPackState, emitUnitState, nothingIn, emitUnitsState, emissionIn};
 use encode::Written;

@@ -1,12 +1,12 @@
 -- The records of instructions in the table of bytes: what stands there after so many instructions, and after one more.
 use mathlib.Core.Path.{_≡_, refl, sym, ap, ap₂, _∙_}
-use mathlib.Core.List.{List, [], _∷_, _++_, map}
+use mathlib.Core.List.{List, [], _∷_, _++_, map, map-append}
 use Prim.Native.Nat.{ℕ, suc, _+_, _^_, _<_}
 use native.Mathlib.Omega.{arith}
 use lib.ListN.{length, set, length-append}
 use lib.Seq.{sets}
 use Rattle.basics.specs.Lists.{sum, flat}
-use Rattle.basics.proofs.Finding.{flat-append, map-append}
+use Rattle.basics.proofs.Finding.{flat-append}
 use Rattle.basics.proofs.Stores.{sets-append}
 use Rattle.meaning.specs.declared.Statement.{Statement}
 use Rattle.meaning.specs.List.{Instruction, instructionBytes, instructionPrice, ledByLength, recordsBytes, listPrice}

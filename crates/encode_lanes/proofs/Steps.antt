@@ -1,21 +1,13 @@
 -- The record of G as the code makes it: widths and cells are counted first, and the bytes go by these numbers.
 use mathlib.Core.Path.{_≡_}
-use mathlib.Core.Bool.{Bool, true, false}
 use mathlib.Core.List.{List}
 use Prim.Native.Nat.{ℕ, _+_}
 use lib.Dec.{eqb}
 use borrow.Author.Tests.{eq-eqb, ne-eqb}
-use Rattle.basics.specs.Choice.{pick}
+use Rattle.basics.proofs.Parts.{picked, left-out}
 use Rattle.encode.specs.declared.Written.{Written}
 use Rattle.encode.specs.Records.{listing, recordBehind}
 use Rattle.encode_lanes.specs.Lanes.{laneAt, putFront, putOperands, widthOf, cellsOf, gatherTwo, gatherFour, writeG}
-
--- the answer that a test picks
-pub picked {ℓ} : {A : Type ℓ} {z : A} (test : Bool) (x y : A) → test ≡ true → z ≡ x → z ≡ pick test x y
-picked test x y e h = rw (e, h)
-
-pub left-out {ℓ} : {A : Type ℓ} {z : A} (test : Bool) (x y : A) → test ≡ false → z ≡ y → z ≡ pick test x y
-left-out test x y e h = rw (e, h)
 
 -- one number found before, or two
 found-before : (F : ℕ → List ℕ) (P : List ℕ → List ℕ) (B : ℕ → ℕ → Written)

@@ -11,16 +11,15 @@ use lib.ListN.{length, getD}
 use borrow.Author.Tests.{lt-ltb, le-ltb, ne-eqb}
 use Rattle.basics.specs.Choice.{pick}
 use Rattle.basics.specs.Lists.{any, all, sum}
-use Rattle.basics.specs.Sets.{has}
 use Rattle.basics.proofs.Tests.{below-or-not}
 use Rattle.meaning.specs.declared.Place.{Place}
 use Rattle.meaning.specs.declared.Place.the-variants.{Variable, Cell}
 use Rattle.meaning.specs.declared.Operand.{Operand}
-use Rattle.meaning.specs.declared.Operand.the-variants.{Nothing, Constant, Held}
 use Rattle.meaning.specs.declared.Statement.{Statement}
-use Rattle.meaning.specs.Block.{statement, isCopy, inRow, operandsInRow, Position, left, right, operand, positions, cellPlace, cellOperand}
+use Rattle.meaning.specs.Block.{statement, isCopy, inRow, operandsInRow, Position, left, right, operand, cellPlace, cellOperand}
 use Rattle.meaning.specs.Pairs.{Pair, pair, isAdmitted, partner}
 use Rattle.meaning.specs.Estimate.{bothDefined, definitions, isPair, constants, operandsCost, positionCost, readsTogether, destinationCost, gain, loss}
+use Rattle.meaning.proofs.Bounds.{place-cells, statement-price}
 use Rattle.theorems.specs.Units.{Every}
 use Rattle.theorems.proofs.Occurs.{every-weaker}
 use Rattle.theorems.proofs.Chains.{partner-related}
@@ -36,7 +35,6 @@ use Rattle.reach.specs.Tied.{numberOf, Defined}
 use Rattle.pairs.specs.Admission.{tablesOf, admittedIn}
 use Rattle.pairs.proofs.Tables.{lefts-below, rights-below, partners-tied}
 use Rattle.pairs.proofs.Leading.{admitted-tied}
-use Rattle.pairs.proofs.May.{kind-small}
 use Rattle.estimate.specs.Costs.{codesCost, positionLoss, areRead, destinationLoss, rightLoss, lossOf, gainOf, priced}
 use Rattle.estimate.proofs.Definitions.{Defines, defines-below, definition-defines, operandsColumn, definitionsColumn, definitionAt, operands-at, definitions-at}
 use Rattle.estimate.proofs.Readers.{are-read}
@@ -51,11 +49,6 @@ copy-sort : (operation kind : ℕ) → kind ≤ 1 → ltb (2 * operation + kind)
 copy-sort zero kind h = lt-ltb (2 * 0 + kind) 2 (omega arith)
 copy-sort (suc operation) kind h =
     le-ltb (2 * suc operation + kind) 2 (omega arith) ∙ sym (ne-eqb (suc operation) 0 (λ e. omega arith))
-
-operand-small : (o : Operand) → cellOperand o ≤ 1
-operand-small Nothing = omega arith
-operand-small (Constant c) = omega arith
-operand-small (Held p) = kind-small p
 
 -- the sum over a statement's positions
 over-positions : (copies : Bool) (cost : Position → ℕ)
@@ -88,7 +81,7 @@ module _ (ss : List Statement) (facts : List ℕ) (few : length ss ≤ 64) (fit 
     where
       either : (s < length ss) ⊎ (length ss ≤ s) → factAt facts 256 s ≤ 4
       either (inl below) =
-          omega (arith, stated .prices s below, operand-small (statement ss s .left), operand-small (statement ss s .right), kind-small (statement ss s .destination))
+          omega (arith, stated .prices s below, statement-price (statement ss s))
       either (inr past) = omega (arith, stated .beyond 4 s (omega arith) past)
 
   module _ (p : Pair) (low : p .left < length ss) (high : p .right < length ss) where
@@ -125,7 +118,7 @@ module _ (ss : List Statement) (facts : List ℕ) (few : length ss ≤ 64) (fit 
       right-loss =
           ap₂ (λ (test : Bool) (cost : ℕ). pick test 0 cost)
           (ap (λ (sort : ℕ). ltb sort 2) (stated .sorts (p .left) low)
-          ∙ copy-sort (statement ss (p .left) .operation) (cellPlace (statement ss (p .left) .destination)) (kind-small (statement ss (p .left) .destination)))
+          ∙ copy-sort (statement ss (p .left) .operation) (cellPlace (statement ss (p .left) .destination)) (place-cells (statement ss (p .left) .destination)))
           (position-loss right)
 
       destination-loss : destinationLoss facts next p ≡ destinationCost ss pairs p

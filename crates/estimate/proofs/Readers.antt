@@ -13,7 +13,7 @@ use Rattle.basics.specs.Counting.{count}
 use Rattle.basics.specs.Lists.{any}
 use Rattle.basics.specs.Sets.{has}
 use Rattle.basics.proofs.Counting.{count-up}
-use Rattle.basics.proofs.Tests.{and-left, and-right, and-both, or-either, or-left, or-right, below-or-not, same-test}
+use Rattle.basics.proofs.Tests.{and-left, and-right, and-both, or-either, or-left, or-right, below-or-not, same-test, eqb-back}
 use Rattle.meaning.specs.declared.Statement.{Statement}
 use Rattle.meaning.specs.Block.{Position, left, right}
 use Rattle.meaning.specs.Pairs.{Pair, pair, samePair, isAdmitted}
@@ -24,7 +24,6 @@ use Rattle.rows.proofs.Walks.{walk-counts}
 use Rattle.facts.specs.Facts.{factAt}
 use Rattle.reach.specs.Tied.{numberOf, Defined}
 use Rattle.pairs.specs.Admission.{admittedIn}
-use Rattle.pairs.proofs.Leading.{eqb-back}
 use Rattle.estimate.specs.Costs.{readsAt, readsPair, areRead}
 use Rattle.estimate.proofs.Definitions.{definitionsColumn, definitionAt, definitions-at}
 

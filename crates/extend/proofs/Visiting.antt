@@ -148,11 +148,6 @@ module _ (ss : List Statement) (facts direct reached : List ℕ) (few : length s
         loses = λ p low high. same-loss ss facts few fit stated defined p low high pairs known;
       }
 
-  -- A visit to the tables of pairs leaves the tables of the pairs visited.
-  pub visit-tied : (p : Pair) → p .left < length ss → p .right < length ss → (pairs : List Pair) → Admitted ss pairs
-      → visitTables facts reached p (tablesOf pairs) ≡ tablesOf (visit ss p pairs)
-  visit-tied = visits-one ss facts reached few defined told-by
-
   -- "Each pair is visited once, in order of admission, added pairs at the end."
   pub extend-tied : (pairs : List Pair) → Admitted ss pairs → visitTablesFrom (length ss) facts reached 0 (tablesOf pairs) ≡ tablesOf (extend ss pairs)
   unfolding extend

@@ -11,6 +11,7 @@ use borrow.Author.Tests.{lt-ltb, le-ltb}
 use Rattle.basics.specs.Lists.{all}
 use Rattle.basics.proofs.Counting.{count-up}
 use Rattle.basics.proofs.Tests.{below-or-not, equal-or-not}
+use Rattle.basics.proofs.Lists.{replicate-at}
 use Rattle.meaning.specs.declared.Statement.{Statement}
 use Rattle.meaning.specs.Block.{blank, statement, statementPrice}
 use Rattle.codes.specs.Codes.{placeCode, operandCode, cellCode}
@@ -164,11 +165,6 @@ module _ (ss : List Statement) (j : ℕ) (facts : List ℕ) (low : j < 64) (f : 
   next-filled : Filled ss (j + 1) next
   next-filled = record { whole = stated-length j (statement ss j) facts (f .whole) low; met = next-met; waiting = next-waiting }
 
-pub zeros : (n i : ℕ) → getD {A = ℕ} (replicate n 0) i 0 ≡ 0
-zeros zero i = refl
-zeros (suc n) zero = refl
-zeros (suc n) (suc i) = zeros n i
-
 all-filled : (ss : List Statement) (n : ℕ) (facts : List ℕ) → n ≤ 64 → Filled ss 0 facts → Filled ss n (statedFacts ss n facts)
 unfolding statedFacts
 all-filled ss n facts small start =
@@ -228,4 +224,4 @@ stated-facts slots n few there fit =
     filled-stated slots n few there fit _ (all-filled slots n _ few (nothing-yet 512 (length-replicate {A = ℕ} 512 0)))
   where
     nothing-yet : (m : ℕ) → length {A = ℕ} (replicate m 0) ≡ 512 → Filled slots 0 (replicate m 0)
-    nothing-yet m whole = record { whole = whole; met = λ k t small below. absurd (omega arith); waiting = λ k t small h. zeros m (64 * k + t) }
+    nothing-yet m whole = record { whole = whole; met = λ k t small below. absurd (omega arith); waiting = λ k t small h. replicate-at m (64 * k + t) 0 }

@@ -12,6 +12,7 @@ use Rattle.basics.specs.Sets.{only, has}
 use Rattle.basics.proofs.Counting.{count-up}
 use Rattle.basics.proofs.Sets.{has-nobody}
 use Rattle.basics.proofs.Tests.{below-or-not, equal-or-not}
+use Rattle.basics.proofs.Lists.{replicate-at}
 use Rattle.meaning.specs.declared.Statement.{Statement}
 use Rattle.meaning.specs.Block.{statement}
 use Rattle.codes.specs.Codes.{placeCode, operandCode}
@@ -19,7 +20,6 @@ use Rattle.facts.specs.Facts.{factAt}
 use Rattle.facts.specs.Places.{Named as Tables, namedTables, joinAt, namePlace, namePlaces}
 use Rattle.facts.specs.Tied.{Stated, Names, Named, isPlaceCode}
 use Rattle.facts.proofs.Steps.{names-nothing, names-beyond, names-again, names-first}
-use Rattle.facts.proofs.Columns.{zeros}
 use Rattle.facts.proofs.Numbers.{Numbered, Met, place-code, beyond-places, number-now, next-numbered, next-met, met-none, met-again}
 
 -- what stands when the first j statements of a column have been met: so many numbers more at most, and the rows of earlier columns kept
@@ -178,9 +178,9 @@ unnumbered-zeros : (n : ℕ) → n ≡ 2570 → Numbered (replicate n 0) 0
 unnumbered-zeros n e =
     record {
       codes = length-replicate n 0 ∙ e;
-      no-place = zeros n 0;
-      in-turn = λ code. omega (arith, zeros n code);
-      apart = λ code other numbered same. absurd (numbered (zeros n code));
+      no-place = replicate-at n 0 0;
+      in-turn = λ code. omega (arith, replicate-at {A = ℕ} n code 0);
+      apart = λ code other numbered same. absurd (numbered (replicate-at n code 0));
     }
 
 -- The tables that are made for a block: the writers of each place, and its readers on the left and on the right.
@@ -192,4 +192,4 @@ pub places-named : (ss : List Statement) (n : ℕ) (facts : List ℕ) → length
     → Named ss (third .numbers) (first .named) (second .named) (third .named)
 places-named ss n facts so-many small stated first second third e f g =
     rw (g, f, e, ← so-many)
-    (three-named ss facts stated (omega arith) (replicate 2570 0) (unnumbered-zeros 2570 refl) (replicate 193 0) (length-replicate {A = ℕ} 193 0) (zeros 193))
+    (three-named ss facts stated (omega arith) (replicate 2570 0) (unnumbered-zeros 2570 refl) (replicate 193 0) (length-replicate {A = ℕ} 193 0) (λ i. replicate-at 193 i 0))

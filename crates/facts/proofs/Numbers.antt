@@ -1,7 +1,7 @@
 -- The tables of places: no two places share a number, and a place's row has the statements that name it.
 use mathlib.Core.Path.{_≡_, refl, sym, ap, _∙_}
 use mathlib.Core.Logic.{_≢_, _⊎_, inl, inr}
-use mathlib.Core.Bool.{Bool, true, false, _&&_, _||_}
+use mathlib.Core.Bool.{true, false, _&&_, and-false, or-true, or-false}
 use mathlib.Core.List.{List}
 use Prim.Native.Nat.{ℕ, _+_, _≤_, _<_}
 use native.Mathlib.Omega.{arith}
@@ -12,6 +12,10 @@ use borrow.Author.Tests.{lt-ltb, le-ltb, eq-eqb, ne-eqb}
 use Rattle.basics.specs.Sets.{only, join, has}
 use Rattle.basics.proofs.Sets.{has-only, has-join}
 use Rattle.basics.proofs.Tests.{below-or-not, equal-or-not}
+use Rattle.meaning.specs.declared.Place.{Place}
+use Rattle.codes.specs.Codes.{placeCode}
+use Rattle.codes.specs.Fitting.{placeFits}
+use Rattle.codes.proofs.Places.{from-two, below-2569}
 use Rattle.facts.specs.Places.{joinAt, naming}
 use Rattle.facts.specs.Tied.{isPlaceCode}
 
@@ -35,10 +39,9 @@ place-code code some within = rw (lt-ltb 0 code (omega arith), lt-ltb code 2570 
 
 pub beyond-places : (code : ℕ) → 2570 ≤ code → isPlaceCode code ≡ false
 beyond-places code past = rw (le-ltb code 2570 past) (and-false (ltb 0 code))
-  where
-    and-false : (a : Bool) → a && false ≡ false
-    and-false true = refl
-    and-false false = refl
+
+pub place-coded : (p : Place) → placeFits p ≡ true → isPlaceCode (placeCode p) ≡ true
+place-coded p fits = place-code (placeCode p) (λ e. omega (arith, from-two p)) (omega (arith, below-2569 p fits))
 
 -- one statement more, which is i or is not
 more-below : (i j : ℕ) → i ≢ j → ltb i (j + 1) ≡ ltb i j
@@ -146,17 +149,9 @@ module _ (codeOf : ℕ → ℕ) (j : ℕ) (numbers : List ℕ) (given : ℕ) (na
         here i (inl e) =
             has-join (getD named number 0) (only j) i
             ∙ rw (e, has-only j j, eq-eqb j j refl, eq-eqb (codeOf j) (codeOf j) refl, place, lt-ltb j (j + 1) (omega arith)) (or-true (has (getD named number 0) j))
-          where
-            or-true : (a : Bool) → a || true ≡ true
-            or-true true = refl
-            or-true false = refl
         here i (inr other) =
             has-join (getD named number 0) (only j) i
             ∙ rw (has-only j i, ne-eqb j i (λ (e : j ≡ i). other (sym e)), more-below i j other) (or-false (has (getD named number 0) i) ∙ m .named-by (codeOf j) i)
-          where
-            or-false : (a : Bool) → a || false ≡ a
-            or-false true = refl
-            or-false false = refl
 
         elsewhere : (code i : ℕ) → code ≢ codeOf j → (i ≡ j) ⊎ (i ≢ j)
             → ltb i j && (eqb (codeOf i) code && isPlaceCode code) ≡ ltb i (j + 1) && (eqb (codeOf i) code && isPlaceCode code)

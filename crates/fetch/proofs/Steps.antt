@@ -6,12 +6,12 @@ use Prim.Native.Nat.{ℕ, _+_, _%_, _^_, _≤_, _<_}
 use lib.Dec.{eqb, ltb}
 use borrow.Author.Tests.{lt-ltb, le-ltb, eq-eqb, ne-eqb}
 use Rattle.basics.specs.Choice.{pick}
+use Rattle.basics.proofs.Parts.{picked, left-out}
 use Rattle.registers.specs.declared.Tuple.{Tuple}
 use Rattle.registers.specs.Table.{tupleLane, holdTuple}
 use Rattle.encode.specs.declared.Written.{Written}
 use Rattle.encode.specs.Records.{listing, writeCells}
 use Rattle.encode_lanes.specs.Lanes.{writeC, writeG}
-use Rattle.encode_lanes.proofs.Steps.{picked, left-out}
 use Rattle.lanes.specs.Homes.{InLanes, inLanes, extractTuple}
 use Rattle.fetch.specs.declared.Emitted.{Emitted}
 use Rattle.fetch.specs.Fetching.{State, state, Got, got, tupleInRow, tupleConstant, withList, gather, loadTuple, loadState, holderIn, fetchState, fetchRightState}

@@ -1,5 +1,5 @@
 -- The record at a place is the one that a list's records begin with there: `instructionAt` and `endAt` say what `readRecords` reads.
-use mathlib.Core.Path.{_≡_, refl, _∙_}
+use mathlib.Core.Path.{_≡_, refl}
 use mathlib.Core.Logic.{⊎-elim}
 use mathlib.Core.Option.{Option, none, some}
 use mathlib.Core.List.{List, [], _∷_}
@@ -38,9 +38,6 @@ left-over byte rest = refl
 nothing-left : readRecords 0 [] ≡ some []
 unfolding readRecords
 nothing-left = refl
-
-none-is-not-some : {i : Instruction} → none ≡ some i → ⊥
-none-is-not-some e = let z : _≡_ {A = ℕ} 0 1 = cc in omega arith
 
 module _ (bytes : List ℕ) (start : ℕ) where
   -- no byte is left, or fewer than the first one counts
@@ -114,16 +111,4 @@ module _ (bytes : List ℕ) (start : ℕ) where
       ⊎-elim
       (λ there. rw (lt-leb (length bytes) start there, drop-cons bytes start 0 there) (left-over (getD bytes start 0) (drop (suc start) bytes)))
       (λ past. rw (le-leb (length bytes) start past, drop-of-length-le bytes past) nothing-left)
-      (below-or-not start (length bytes))
-
-  -- a record that is an instruction ends within the bytes
-  pub end-within : (instruction : Instruction) → instructionAt bytes start ≡ some instruction → endAt bytes start ≤ length bytes
-  end-within instruction e =
-      ⊎-elim
-      (λ there.
-      ⊎-elim
-      (λ short. absurd (none-is-not-some (too-short there short .0 ∙ e)))
-      (λ fits. rw (← whole-record there fits .1) (omega arith))
-      (below-or-not (length bytes - (start + 1)) (getD bytes start 0)))
-      (λ past. absurd (none-is-not-some (no-bytes past .0 ∙ e)))
       (below-or-not start (length bytes))

@@ -1,9 +1,8 @@
-// From a record's bytes to its instruction, none where they are at fault (8), and what an instruction
-// costs.
+// From a record's bytes to its instruction, none where they are at fault (8).
 
 ghost use mathlib.Core.Path.{_≡_};
 ghost use Prim.Native.Nat.{_+_, _≤_};
-ghost use lib.ListN.{length, getD, take, drop};
+ghost use lib.ListN.{length, getD, take};
 ghost use mathlib.Core.List.{[], _∷_, map};
 ghost use Rattle.basics.specs.Lists.{all, sum};
 ghost use Rattle.meaning.specs.Format.{number, operandWidth, isOperand};
@@ -11,7 +10,6 @@ ghost use Rattle.meaning.specs.List.{lanesFit, readS, readL, readC, readG, read
 ghost use Rattle.instructions.specs.Meant.{meant, readCopy, readTwo, gathered};
 ghost use Rattle.instructions.specs.Next.{instructionAt, endAt};
 use meaning::Operand;
-use meaning::Statement;
 
 // An instruction, its fields in the document's order. A constant or an operand past the lanes is
 // zero or nothing. A copy in O has no rb and stands by itself.

@@ -3,15 +3,16 @@ use mathlib.Core.Path.{_≡_, refl, sym, ap, subst, _∙_}
 use mathlib.Core.Logic.{_⊎_, inl, inr}
 use mathlib.Core.Bool.{Bool, true, false, not}
 use mathlib.Core.Option.{Option, none, some}
-use mathlib.Core.List.{List, [], _∷_, _++_, map, append-nil}
-use Prim.Native.Nat.{ℕ, zero, suc, _+_, _*_, _/_, _≤_, _<_}
+use mathlib.Core.List.{List, [], _∷_, _++_, map}
+use Prim.Native.Nat.{ℕ, suc, _+_, _*_, _/_, _≤_, _<_}
 use native.Mathlib.Omega.{arith}
 use lib.Dec.{eqb}
 use lib.ListN.{length, getD, set, replicate, length-set, length-replicate}
 use lib.Seq.{getD-set-same, getD-set-other, set-out}
 use borrow.Author.Tests.{eqb-true, eqb-false, eq-eqb, ne-eqb, lt-ltb}
 use Rattle.basics.specs.Lists.{all, keep, first}
-use Rattle.basics.proofs.Finding.{keep-yes, keep-no, first-yes, first-no}
+use Rattle.basics.proofs.Lists.{replicate-at}
+use Rattle.basics.proofs.Finding.{keep-yes, keep-no, first-yes, first-no, first-ahead, first-behind}
 use Rattle.basics.proofs.Tests.{passes-or-fails}
 use Rattle.basics.proofs.Parts.{all-first, all-others}
 use Rattle.meaning.specs.declared.Place.{Place}
@@ -35,13 +36,8 @@ pub record Homes (homes : List Home) (table : List ℕ) : Type 0 where
   pub variables : (v : ℕ) → v < 256 → Homed (getD table (suc v) 0) (first (isHome v) homes)
 
 -- no variable is in a lane before the first unit
-nought : (n i : ℕ) → _≡_ {A = ℕ} (getD (replicate n 0) i 0) 0
-nought zero i = refl
-nought (suc n) zero = refl
-nought (suc n) (suc i) = nought n i
-
 pub no-homes : Homes [] (replicate 257 0)
-no-homes = record { sized = length-replicate {A = ℕ} 257 0; nothing = nought 257 0; variables = λ v small. nought 257 (suc v) }
+no-homes = record { sized = length-replicate {A = ℕ} 257 0; nothing = replicate-at {A = ℕ} 257 0 0; variables = λ v small. replicate-at {A = ℕ} 257 (suc v) 0 }
 
 -- the slot of a variable; whatever is no variable has none
 pub variable-slot : (v : ℕ) → placeCode (Variable v) / 2 ≡ suc v
@@ -187,27 +183,6 @@ away r lane w (Variable v ∷ ps) homes =
         rw (first-no (isHome w) h (homesFrom r (lane + 1) (map Held ps)) (ne-eqb v w (λ (same : v ≡ w). differ (sym same))))
         (as-before (first (isHome w) (homesFrom r (lane + 1) (map Held ps))) (first-others v w homes differ) is)
 
-first-behind : (w : ℕ) (homes more : List Home) → first (isHome w) homes ≡ none → first (isHome w) (homes ++ more) ≡ first (isHome w) more
-first-behind w [] more e = refl
-first-behind w (h ∷ homes) more e = by (isHome w h) refl (first-behind w homes more)
-  where
-    by : (t : Bool) → isHome w h ≡ t → (first (isHome w) homes ≡ none → first (isHome w) (homes ++ more) ≡ first (isHome w) more)
-        → first (isHome w) (h ∷ homes ++ more) ≡ first (isHome w) more
-    by true t rest = let z : _≡_ {A = ℕ} 0 1 = cc (first-yes (isHome w) h homes t) in absurd (omega arith)
-    by false t rest = first-no (isHome w) h (homes ++ more) t ∙ rest (sym (first-no (isHome w) h homes t) ∙ e)
-
-first-ahead : (w : ℕ) (homes more : List Home) (found : Home) → first (isHome w) homes ≡ some found → first (isHome w) (homes ++ more) ≡ some found
-first-ahead w [] more found e = let z : _≡_ {A = ℕ} 0 1 = cc in absurd (omega arith)
-first-ahead w (h ∷ homes) more found e = by (isHome w h) refl (first-ahead w homes more found)
-  where
-    by : (t : Bool) → isHome w h ≡ t → (first (isHome w) homes ≡ some found → first (isHome w) (homes ++ more) ≡ some found)
-        → first (isHome w) (h ∷ homes ++ more) ≡ some found
-    by true t rest = first-yes (isHome w) h (homes ++ more) t ∙ sym (first-yes (isHome w) h homes t) ∙ e
-    by false t rest = first-no (isHome w) h (homes ++ more) t ∙ rest (sym (first-no (isHome w) h homes t) ∙ e)
-
-first-nil : (w : ℕ) (homes : List Home) → first (isHome w) (homes ++ []) ≡ first (isHome w) homes
-first-nil w homes = rw append-nil
-
 on-either-side : (r w : ℕ) (ps : List Place) (homes : List Home)
     → first (isHome w) (awayFrom ps homes ++ homesFrom r 0 (map Held ps)) ≡ first (isHome w) (homesFrom r 0 (map Held ps) ++ homes)
 on-either-side r w ps homes = by (first (isHome w) (homesFrom r 0 (map Held ps))) refl (away r 0 w ps homes)
@@ -216,17 +191,17 @@ on-either-side r w ps homes = by (first (isHome w) (homesFrom r 0 (map Held ps))
     new = homesFrom r 0 (map Held ps)
 
     kept : (old : Option Home) → first (isHome w) (awayFrom ps homes) ≡ old → first (isHome w) new ≡ none → first (isHome w) (awayFrom ps homes ++ new) ≡ old
-    kept none e n = first-behind w (awayFrom ps homes) new e ∙ n
-    kept (some h) e n = first-ahead w (awayFrom ps homes) new h e
+    kept none e n = first-behind (isHome w) (awayFrom ps homes) new e ∙ n
+    kept (some h) e n = first-ahead (isHome w) (awayFrom ps homes) new h e
 
     by : (found : Option Home) → first (isHome w) new ≡ found → Away w ps homes (first (isHome w) new)
         → first (isHome w) (awayFrom ps homes ++ new) ≡ first (isHome w) (new ++ homes)
     by none f is =
         let same : first (isHome w) (awayFrom ps homes) ≡ first (isHome w) homes = subst (Away w ps homes) f is in
-        kept (first (isHome w) homes) same f ∙ sym (first-behind w new homes f)
+        kept (first (isHome w) homes) same f ∙ sym (first-behind (isHome w) new homes f)
     by (some h) f is =
         let gone : first (isHome w) (awayFrom ps homes) ≡ none = subst (Away w ps homes) f is in
-        first-behind w (awayFrom ps homes) new gone ∙ f ∙ sym (first-ahead w new homes h f)
+        first-behind (isHome w) (awayFrom ps homes) new gone ∙ f ∙ sym (first-ahead (isHome w) new homes h f)
 
 -- "A variable written by a pack stays in its lane."
 pub homes-landed : (r : ℕ) (ps : List Place) (homes : List Home) (table : List ℕ) → r < 96 → length ps ≤ 4 → all placeFits ps ≡ true

@@ -1,10 +1,9 @@
 -- A list's number: 8 where it does not read, else 9 where it is not allowed, else 0.
 use mathlib.Core.Path.{_≡_, refl}
-use mathlib.Core.Bool.{true, false}
+use mathlib.Core.Bool.{true, false, true≢false, false≢true}
 use mathlib.Core.Option.{Option, none, some}
 use mathlib.Core.List.{List, []}
 use Prim.Native.Nat.{ℕ}
-use native.Mathlib.Omega.{arith}
 use Rattle.meaning.specs.Block.{Block}
 use Rattle.meaning.specs.Numbers.{done, demand, andThen}
 use Rattle.meaning.specs.List.{Instruction, readList, allowed}
@@ -18,16 +17,16 @@ module _ (b : Block) where
   unread : (read : Option (List Instruction)) → isSome read ≡ false → 8 ≡ statusOf read
   unfolding statusOf
   unread none e = refl
-  unread (some list) e = absurd (let z : _≡_ {A = ℕ} 0 1 = cc in omega arith)
+  unread (some list) e = absurd (true≢false e)
 
   forbidden : (read : Option (List Instruction)) → isSome read ≡ true → allowedOf b [] read ≡ false → 9 ≡ statusOf read
   unfolding statusOf
-  forbidden none e f = absurd (let z : _≡_ {A = ℕ} 0 1 = cc in omega arith)
+  forbidden none e f = absurd (false≢true e)
   forbidden (some list) e f = rw f
 
   good : (read : Option (List Instruction)) → allowedOf b [] read ≡ true → 0 ≡ statusOf read
   unfolding statusOf
-  good none f = absurd (let z : _≡_ {A = ℕ} 0 1 = cc in omega arith)
+  good none f = absurd (false≢true f)
   good (some list) f = rw f
 
 module _ (b : Block) (bytes : List ℕ) where

@@ -1,6 +1,6 @@
 -- One turn of the two loops over a list's records: one record more, one that stops the loop, and the end of the bytes.
 use mathlib.Core.Path.{_≡_, refl, sym, ap, _∙_}
-use mathlib.Core.Bool.{Bool, true, false}
+use mathlib.Core.Bool.{Bool, true, false, true≢false, false≢true}
 use mathlib.Core.Option.{Option, none, some}
 use mathlib.Core.List.{List, [], _∷_, _++_, append-nil}
 use Prim.Native.Nat.{ℕ, zero, suc, _+_, _-_, _≤_, _<_}
@@ -24,13 +24,13 @@ use Rattle.rules.proofs.Tied.{obeys-allowed, writes}
 use Rattle.lists.specs.Whole.{isSome, allowedOf}
 
 one-read : (read : Option Meaning) (rest : Option (List Meaning)) → isSome read ≡ true → isSome (behind read rest) ≡ isSome rest
-one-read none rest e = absurd (let z : _≡_ {A = ℕ} 0 1 = cc in omega arith)
+one-read none rest e = absurd (false≢true e)
 one-read (some i) none e = refl
 one-read (some i) (some list) e = refl
 
 none-read : (read : Option Meaning) (rest : Option (List Meaning)) → isSome read ≡ false → isSome (behind read rest) ≡ false
 none-read none rest e = refl
-none-read (some i) rest e = absurd (let z : _≡_ {A = ℕ} 0 1 = cc in omega arith)
+none-read (some i) rest e = absurd (true≢false e)
 
 end-read : (test : Bool) → isSome (pick {A = Option (List Meaning)} test (some []) none) ≡ test
 end-read true = refl
@@ -74,7 +74,7 @@ module _ (b : Block) (written : List ℕ) where
   one-allowed :
       (read : Option Meaning) (rest : Option (List Meaning)) → oneAllowed b written read ≡ true
       → allowedOf b written (behind read rest) ≡ allowedOf b (afterward written read) rest
-  one-allowed none rest e = absurd (let z : _≡_ {A = ℕ} 0 1 = cc in omega arith)
+  one-allowed none rest e = absurd (false≢true e)
   one-allowed (some i) none e = refl
   one-allowed (some i) (some list) e = allowed-first i list e
 

@@ -1,6 +1,8 @@
 pub mod Paths
 pub mod Values
 pub mod Corners
+pub mod Lengths
+pub mod Bounds
 pub mod Computes
 pub mod Making
 pub mod WorkedBlocks

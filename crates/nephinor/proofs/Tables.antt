@@ -10,6 +10,7 @@ use lib.ListN.{length, getD, drop, replicate, length-append, length-replicate, L
 use borrow.Author.Tests.{eq-eqb, le-leb, leb-true, ltb-true}
 use Rattle.basics.specs.Lists.{all}
 use Rattle.basics.proofs.Tests.{and-left, and-right, below-or-not}
+use Rattle.basics.proofs.Lists.{replicate-at}
 use Rattle.basics.proofs.Parts.{all-at}
 use Rattle.meaning.specs.declared.Place.{Place}
 use Rattle.meaning.specs.declared.Place.the-variants.{Variable, Cell}
@@ -34,13 +35,8 @@ use Rattle.nephinor.specs.Exports.{tableRead, writtenPacked, tableWritte
 
 -- what stands behind a list that is filled up is what stands behind the list
 module _ {A : Type 0} (d : A) where
-  same-at : (k i : ℕ) → getD (replicate k d) i d ≡ d
-  same-at zero i = refl
-  same-at (suc k) zero = refl
-  same-at (suc k) (suc i) = same-at k i
-
   filled-at : (k : ℕ) (xs : List A) (i : ℕ) → getD (xs ++ replicate k d) i d ≡ getD xs i d
-  filled-at k [] i = same-at k i
+  filled-at k [] i = replicate-at k i d
   filled-at k (x ∷ xs) zero = refl
   filled-at k (x ∷ xs) (suc i) = filled-at k xs i
 

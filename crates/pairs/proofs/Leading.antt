@@ -8,19 +8,15 @@ use Prim.Native.Nat.{ℕ, zero, suc, _<_, _≤_}
 use native.Mathlib.Omega.{arith}
 use lib.Dec.{eqb, ltb}
 use lib.ListN.{length, getD}
-use borrow.Author.Tests.{lt-ltb, le-ltb, eqb-true, eq-eqb, ne-eqb}
+use borrow.Author.Tests.{lt-ltb, le-ltb, eqb-true, ne-eqb}
 use Rattle.basics.specs.Lists.{any}
-use Rattle.basics.proofs.Tests.{below-or-not, same-test}
+use Rattle.basics.proofs.Tests.{below-or-not, eqb-back}
 use Rattle.meaning.specs.Pairs.{Pair, pair, isAdmitted, isLeft, partner, chainAlong, chain}
 use Rattle.theorems.specs.Units.{Every, Pairwise}
-use Rattle.theorems.proofs.Chains.{partner-related}
+use Rattle.theorems.proofs.Chains.{chosen, partner-related}
 use Rattle.reach.specs.Tied.{numberOf}
 use Rattle.pairs.specs.Admission.{leadsTo, admittedIn}
-use Rattle.pairs.proofs.Tables.{chosen, no-partner}
-
--- numbers are compared either way round
-pub eqb-back : (a b : ℕ) → eqb a b ≡ eqb b a
-eqb-back a b = same-test (eqb a b) (eqb b a) (λ e. eq-eqb b a (sym (eqb-true a b e))) (λ e. eq-eqb a b (sym (eqb-true b a e)))
+use Rattle.pairs.proofs.Tables.{no-partner}
 
 -- a statement has a partner where it is left in a pair
 abbrev isSome : Option ℕ → Bool

@@ -10,12 +10,11 @@ use borrow.Author.Tests.{eqb-true, eqb-false, eq-eqb}
 use Rattle.basics.specs.Lists.{any}
 use Rattle.basics.specs.Sets.{has}
 use Rattle.basics.proofs.Tests.{and-left, and-right, and-both, same-test}
-use Rattle.meaning.specs.declared.Place.{Place}
-use Rattle.meaning.specs.declared.Place.the-variants.{Variable, Cell}
 use Rattle.meaning.specs.declared.Statement.{Statement}
 use Rattle.meaning.specs.Block.{statement, cellPlace}
 use Rattle.meaning.specs.Dependence.{independent}
 use Rattle.meaning.specs.Pairs.{Pair, pair, isLeft, isRight, partner, chain, alike, mayBeAdmitted}
+use Rattle.meaning.proofs.Bounds.{place-cells}
 use Rattle.theorems.specs.Units.{Every}
 use Rattle.theorems.proofs.Occurs.{every-weaker}
 use Rattle.theorems.proofs.Pairs.{Admitted}
@@ -28,10 +27,6 @@ use Rattle.pairs.proofs.Tables.{tables-size, rights-tied, partners-tied
 use Rattle.pairs.proofs.Leading.{left-free, leads-chain}
 
 -- a sort is the operation and the kind of destination in one number
-pub kind-small : (p : Place) → cellPlace p ≤ 1
-kind-small (Variable v) = omega arith
-kind-small (Cell a i) = omega arith
-
 two-in-one : (a b c d : ℕ) → c ≤ 1 → d ≤ 1 → eqb (2 * a + c) (2 * b + d) ≡ eqb a b && eqb c d
 two-in-one a b c d hc hd =
     same-test (eqb (2 * a + c) (2 * b + d)) (eqb a b && eqb c d)
@@ -45,7 +40,7 @@ pub sorts-alike : (ss : List Statement) (facts : List ℕ) → Stated ss facts �
 sorts-alike ss facts stated s t hs ht =
     ap₂ eqb (stated .sorts s hs) (stated .sorts t ht)
     ∙ two-in-one (statement ss s .operation) (statement ss t .operation) (cellPlace (statement ss s .destination)) (cellPlace (statement ss t .destination))
-    (kind-small (statement ss s .destination)) (kind-small (statement ss t .destination))
+    (place-cells (statement ss s .destination)) (place-cells (statement ss t .destination))
 
 -- the conditions put together
 regroup : (a b c d e : Bool) → a && (b && (c && (d && e))) ≡ a && b && c && d && e

@@ -1,27 +1,27 @@
 -- The tables of pairs say what the list of pairs says: each pair by the number of its admission, each partner by the left statement, and
 -- who is right in one.
 use mathlib.Core.Path.{_≡_, refl, sym, ap, _∙_}
-use mathlib.Core.Logic.{_⊎_, inl, inr}
-use mathlib.Core.Bool.{Bool, true, false, _||_, or-false}
+use mathlib.Core.Bool.{Bool, true, false, _||_, or-false, or-assoc}
 use mathlib.Core.Option.{Option, none, some}
 use mathlib.Core.List.{List, [], _∷_, map}
 use Prim.Native.Nat.{ℕ, zero, suc, _+_, _≤_, _<_}
 use native.Mathlib.Omega.{arith}
 use lib.Dec.{eqb}
-use lib.ListN.{length, getD, set, replicate, length-set, length-replicate, length-map, getD-replicate, List·getD-eq-default}
+use lib.ListN.{length, getD, set, replicate, length-set, length-map}
 use lib.Seq.{getD-set-same, getD-set-other}
 use borrow.Author.Tests.{eqb-true, eqb-false, eq-eqb, ne-eqb}
 use Rattle.basics.specs.Choice.{pick}
 use Rattle.basics.specs.Lists.{each}
 use Rattle.basics.specs.Sets.{only, has}
-use Rattle.basics.proofs.Tests.{below-or-not}
+use Rattle.basics.proofs.Lists.{replicate-at}
 use Rattle.basics.proofs.Finding.{each-append}
 use Rattle.basics.proofs.Sets.{has-nobody, has-only, has-join}
 use Rattle.meaning.specs.declared.Statement.{Statement}
-use Rattle.meaning.specs.Pairs.{Pair, pair, isRight, partner, admit}
+use Rattle.meaning.specs.Pairs.{Pair, isRight, partner, admit}
 use Rattle.theorems.specs.Units.{Every, Pairwise, occurs}
-use Rattle.theorems.proofs.Occurs.{every-weaker, occurs-other, occurs-range, fewer}
-use Rattle.theorems.proofs.Orders.{numbers, numbers-inside, length-numbers}
+use Rattle.theorems.proofs.Occurs.{every-weaker, occurs-other}
+use Rattle.theorems.proofs.Orders.{few-numbers}
+use Rattle.theorems.proofs.Chains.{chosen}
 use Rattle.theorems.proofs.Pairs.{Admitted}
 use Rattle.reach.specs.Tied.{numberOf}
 use Rattle.pairs.specs.Admission.{Tables, empty, admitTo, tablesOf}
@@ -70,20 +70,12 @@ onto-rights [] t s = sym (or-false (has (t .rights) s))
 onto-rights (p ∷ pairs) t s =
     onto-rights pairs (admitTo p t) s
     ∙ ap (λ (test : Bool). test || isRight pairs s) (has-join (t .rights) (only (p .right)) s ∙ ap (λ (test : Bool). has (t .rights) s || test) (has-only (p .right) s))
-    ∙ regroup (has (t .rights) s) (eqb (p .right) s) (isRight pairs s)
-  where
-    regroup : (a b c : Bool) → a || b || c ≡ a || (b || c)
-    regroup true b c = refl
-    regroup false b c = refl
+    ∙ or-assoc (has (t .rights) s) (eqb (p .right) s) (isRight pairs s)
 
 -- the partner in these pairs, or else what was there before
 abbrev orElse : Option ℕ → ℕ → ℕ
 orElse none other = other
 orElse (some s) other = s
-
--- the choice that finds a partner
-abbrev pub chosen : Bool → Pair → Option ℕ → Option ℕ
-chosen test p other = elim test [ true ↦ some (p .right) | false ↦ other ]
 
 -- a statement from which all these lefts differ has no partner in them
 pub no-partner : (s : ℕ) (pairs : List Pair) → Every (λ p. s ≡ p .left → ⊥) pairs → partner pairs s ≡ none
@@ -106,13 +98,6 @@ onto-partner (p ∷ pairs) t s differ below = onto-partner pairs (admitTo p t) s
     either false other = ap (orElse (partner pairs s)) (getD-set-other (t .next) (p .left) s (p .right) 64 (λ e. eqb-false (p .left) s other (sym e)))
 
 -- no table has anything before the first pair
-nothing-yet : (n s : ℕ) → _≡_ {A = ℕ} (getD (replicate n 64) s 64) 64
-nothing-yet n s = either (below-or-not s n)
-  where
-    either : (s < n) ⊎ (n ≤ s) → _≡_ {A = ℕ} (getD (replicate n 64) s 64) 64
-    either (inl h) = getD-replicate n s 64 64 h
-    either (inr h) = List·getD-eq-default (replicate n 64) 64 (omega (arith, length-replicate {A = ℕ} n 64))
-
 or-none : (o : Option ℕ) (n : ℕ) → n ≡ 64 → orElse o n ≡ numberOf o
 or-none none n e = e
 or-none (some s) n e = refl
@@ -181,8 +166,7 @@ module _ (ss : List Statement) (pairs : List Pair) (known : Admitted ss pairs) w
   pairs-few =
       omega (
         arith,
-        fewer (lefts pairs) (numbers (length ss) 0) (λ s. within s (below-or-not s (length ss))),
-        length-numbers (length ss) 0,
+        few-numbers (length ss) (lefts pairs) (lefts-in pairs lefts-below) (λ s h. left-once s pairs (known .lefts-differ)),
         length-map pairs (λ p. p .left),
       )
     where
@@ -190,16 +174,12 @@ module _ (ss : List Statement) (pairs : List Pair) (known : Admitted ss pairs) w
       lefts-in [] e = tt
       lefts-in (q ∷ qs) e = (e .0, lefts-in qs (e .1))
 
-      within : (s : ℕ) → (s < length ss) ⊎ (length ss ≤ s) → occurs s (lefts pairs) ≤ occurs s (numbers (length ss) 0)
-      within s (inl h) = omega (arith, left-once s pairs (known .lefts-differ), numbers-inside (length ss) 0 s (omega arith) (omega arith))
-      within s (inr h) = omega (arith, occurs-range (length ss) (lefts pairs) (lefts-in pairs lefts-below) s h)
-
   module _ (few : length ss ≤ 64) where
     pub partners-tied : (s : ℕ) → getD (tablesOf pairs .next) s 64 ≡ numberOf (partner pairs s)
     unfolding tablesOf
     partners-tied s =
         onto-partner pairs empty s (known .lefts-differ) (every-weaker (λ p h. omega (arith, h)) pairs lefts-below)
-        ∙ or-none (partner pairs s) (getD (replicate 64 64) s 64) (nothing-yet 64 s)
+        ∙ or-none (partner pairs s) (getD (replicate 64 64) s 64) (replicate-at 64 s 64)
 
     pub tables-paired : Paired pairs (tablesOf pairs .next) (tablesOf pairs .rights)
     tables-paired = record { partners = partners-tied; are-right = rights-tied pairs }

@@ -1,6 +1,6 @@
 -- What the tables of pairs say of the list of pairs, as the phases behind rest on it.
 use mathlib.Core.Path.{_≡_}
-use Prim.Native.Nat.{ℕ, _<_}
+use Prim.Native.Nat.{ℕ}
 use mathlib.Core.List.{List}
 use lib.ListN.{getD}
 use Rattle.basics.specs.Sets.{has}

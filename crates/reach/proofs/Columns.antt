@@ -7,12 +7,13 @@ use native.Mathlib.Omega.{arith}
 use lib.ListN.{length, getD, set, replicate, length-set, length-replicate}
 use lib.Seq.{getD-set-other}
 use Rattle.basics.proofs.Tests.{below-or-not}
+use Rattle.basics.proofs.Lists.{replicate-at}
 use Rattle.basics.proofs.Counting.{count-up}
 use Rattle.meaning.specs.declared.Statement.{Statement}
 use Rattle.meaning.specs.Block.{statement}
 use Rattle.facts.specs.Facts.{factAt, stateFacts, statedFacts}
 use Rattle.facts.specs.Tied.{Stated}
-use Rattle.facts.proofs.Columns.{fact-within, fact-past, zeros}
+use Rattle.facts.proofs.Columns.{fact-within, fact-past}
 
 -- one fact, where the words are the same
 pub same-fact : (before after : List ℕ) (column s : ℕ) → (s < 64 → getD after (column + s) 0 ≡ getD before (column + s) 0) → factAt after column s ≡ factAt before column s
@@ -57,7 +58,7 @@ unread-set facts at v low h =
     }
 
 zeros-unread : Unread (replicate 512 0)
-zeros-unread = record { sized = length-replicate {A = ℕ} 512 0; empty = λ at high. zeros 512 at }
+zeros-unread = record { sized = length-replicate {A = ℕ} 512 0; empty = λ at high. replicate-at 512 at 0 }
 
 stated-unread : (slots : List Statement) (n : ℕ) → n ≤ 64 → Unread (statedFacts slots n (replicate 512 0))
 unfolding statedFacts

@@ -1,21 +1,18 @@
--- The rows and columns of a block in memory: the first n of its slots are its statements.
-use mathlib.Core.Path.{_≡_, sym, subst}
+-- The columns of a block in memory: the first n of its slots are its statements.
+use mathlib.Core.Path.{_≡_, subst}
 use mathlib.Core.Bool.{true}
 use mathlib.Core.List.{List}
 use Prim.Native.Nat.{ℕ, _≤_}
 use native.Mathlib.Omega.{arith}
 use lib.ListN.{length, take, replicate, length-take}
-use lib.Seq.{getD-take}
 use Rattle.basics.specs.Lists.{all}
 use Rattle.meaning.specs.declared.Statement.{Statement}
-use Rattle.meaning.specs.Block.{blank}
 use Rattle.codes.specs.Fitting.{statementFits}
 use Rattle.facts.specs.Facts.{statedFacts}
 use Rattle.facts.specs.Tied.{Stated, Named}
 use Rattle.facts.proofs.Columns.{stated-facts}
-use Rattle.reach.specs.Rows.{directRows, reachedRows, withDefinitions, withReaders}
-use Rattle.reach.specs.Tied.{Rowed, Defined}
-use Rattle.reach.proofs.Reaching.{rowed}
+use Rattle.reach.specs.Rows.{withDefinitions, withReaders}
+use Rattle.reach.specs.Tied.{Defined}
 use Rattle.reach.proofs.Columns.{stated-sized, no-readers-yet}
 use Rattle.reach.proofs.Defining.{defined, stated-gathered}
 
@@ -26,12 +23,6 @@ module _ (slots : List Statement) (n : ℕ) (few : n ≤ 64) (there : n ≤ leng
 
   within : length (take n slots) ≤ 64
   within = omega (arith, length-take n slots)
-
-  pub slots-rowed : Rowed (take n slots) (directRows slots n numbers writers lefts rights) (reachedRows (directRows slots n numbers writers lefts rights) n)
-  slots-rowed =
-      subst (λ (k : ℕ). Rowed (take n slots) (directRows slots k numbers writers lefts rights) (reachedRows (directRows slots k numbers writers lefts rights) k)) so-many
-      (rowed (take n slots) within fit numbers writers lefts rights named slots
-      (λ i low. sym (getD-take n slots i blank (omega (arith, so-many)))))
 
   -- the facts that the statements fill by themselves, from zeros
   stated : Stated (take n slots) (statedFacts slots n (replicate 512 0))

@@ -12,12 +12,11 @@ use lib.ListN.{length, getD, set, length-set}
 use lib.Seq.{getD-set-same, getD-set-other}
 use borrow.Author.Tests.{eqb-true, eqb-false, eq-eqb, ne-eqb, lt-ltb, le-ltb}
 use Rattle.basics.specs.Choice.{pick}
-use Rattle.basics.specs.Counting.{count}
 use Rattle.basics.specs.Lists.{all}
 use Rattle.basics.specs.Sets.{only, join, has}
 use Rattle.basics.proofs.Tests.{same-test, below-or-not}
 use Rattle.basics.proofs.Counting.{count-up, count-through}
-use Rattle.basics.proofs.Sets.{has-nobody, has-only, has-join, has-both, has-below, no-one, set-bound}
+use Rattle.basics.proofs.Sets.{has-nobody, has-only, has-join, has-both, has-below, no-one}
 use Rattle.meaning.specs.declared.Place.the-variants.{Variable, Cell}
 use Rattle.meaning.specs.declared.Operand.{Operand}
 use Rattle.meaning.specs.declared.Operand.the-variants.{Nothing, Constant, Held}
@@ -374,9 +373,3 @@ module _ (ss : List Statement) (small : length ss ≤ 64) (fits : all statementF
               rw this
               (no-one _ (λ t. unread s t outside within)
               ∙ sym (defining .high (448 + s) (omega arith) ∙ sym (fact-within facts 448 s within) ∙ no-readers s))
-
--- the readers are a word
-pub readers-small : (ss : List Statement) (facts : List ℕ) → Defined ss facts → length ss ≤ 64 → (s : ℕ) → s < length ss → factAt facts 448 s < 2 ^ 64
-readers-small ss facts defined small s h =
-    set-bound 64 (factAt facts 448 s) (λ t high.
-    defined .readers s t h ∙ ap (λ (test : Bool). test && readsResult ss s t) (le-ltb t (length ss) (omega arith)))

@@ -15,6 +15,7 @@ use Rattle.basics.specs.Lists.{all}
 use Rattle.basics.specs.Sets.{join, has}
 use Rattle.basics.proofs.Tests.{and-left, same-test, below-or-not}
 use Rattle.basics.proofs.Counting.{count-up}
+use Rattle.basics.proofs.Lists.{replicate-at}
 use Rattle.basics.proofs.Sets.{has-nobody, has-join, has-both, has-below}
 use Rattle.meaning.specs.declared.Place.{Place}
 use Rattle.meaning.specs.declared.Operand.{Operand}
@@ -24,17 +25,13 @@ use Rattle.meaning.specs.Block.{statement, same, names}
 use Rattle.meaning.specs.Dependence.{conflicts, dependsOn}
 use Rattle.codes.specs.Codes.{placeCode, operandCode}
 use Rattle.codes.specs.Fitting.{placeFits, operandFits, statementFits}
-use Rattle.codes.proofs.Places.{from-two, below-2569, same-codes}
+use Rattle.codes.proofs.Places.{same-codes}
 use Rattle.codes.proofs.Operands.{name-codes}
 use Rattle.codes.proofs.Fits.{destination-fits, left-fits, right-fits}
 use Rattle.facts.specs.Places.{naming}
 use Rattle.facts.specs.Tied.{isPlaceCode, Named}
-use Rattle.facts.proofs.Columns.{zeros}
+use Rattle.facts.proofs.Numbers.{place-coded}
 use Rattle.reach.specs.Rows.{directRow, directRows}
-
--- a place's code is one
-place-coded : (p : Place) → placeFits p ≡ true → isPlaceCode (placeCode p) ≡ true
-place-coded p ok = rw (lt-ltb 0 (placeCode p) (omega (arith, from-two p)), lt-ltb (placeCode p) 2570 (omega (arith, below-2569 p ok)))
 
 -- a code that is a place's is compared either way round
 turned : (place code : ℕ) → isPlaceCode place ≡ true → eqb place code && isPlaceCode code ≡ eqb code place
@@ -133,7 +130,7 @@ pub record Filled (row : ℕ → ℕ) (k : ℕ) (rows : List ℕ) : Type 0 where
   pub rest : (s : ℕ) → k ≤ s → getD rows s 0 ≡ 0
 
 pub nothing-filled : (row : ℕ → ℕ) → Filled row 0 (replicate 64 0)
-nothing-filled row = record { sized = length-replicate {A = ℕ} 64 0; filled = λ s low. absurd (omega arith); rest = λ s high. zeros 64 s }
+nothing-filled row = record { sized = length-replicate {A = ℕ} 64 0; filled = λ s low. absurd (omega arith); rest = λ s high. replicate-at 64 s 0 }
 
 pub one-filled : (row : ℕ → ℕ) (k : ℕ) (rows : List ℕ) (r : ℕ) → k < 64 → r ≡ row k → Filled row k rows → Filled row (k + 1) (set rows k r)
 one-filled row k rows r h e so-far =
@@ -149,19 +146,12 @@ one-filled row k rows r h e so-far =
         let this : s ≡ k = omega arith in
         rw this (getD-set-same rows k r 0 (omega (arith, so-far .sized)) ∙ e)
 
--- nothing depends on, and nothing that depends is, what is no statement of the block
-no-dependence : (ss : List Statement) (later e : ℕ) → length ss ≤ later → dependsOn ss later e ≡ false
+-- what is no statement of the block depends on nothing, and nothing depends on what does not come before it
+pub no-dependence : (ss : List Statement) (later e : ℕ) → length ss ≤ later → dependsOn ss later e ≡ false
 no-dependence ss later e h = rw (le-ltb later (length ss) h) (ap (λ (t : Bool). t && conflicts (statement ss later) (statement ss e)) (and-false (ltb e later)))
 
 pub nothing-beyond : (ss : List Statement) (later e : ℕ) → later ≤ e → dependsOn ss later e ≡ false
 nothing-beyond ss later e h = rw (le-ltb e later h)
-
-pub none-outside : (ss : List Statement) (later e : ℕ) → length ss ≤ e → dependsOn ss later e ≡ false
-none-outside ss later e h = by (below-or-not later (length ss))
-  where
-    by : (later < length ss) ⊎ (length ss ≤ later) → dependsOn ss later e ≡ false
-    by (inl low) = nothing-beyond ss later e (omega arith)
-    by (inr high) = no-dependence ss later e high
 
 -- The law of the direct rows. `slots` are the statements' slots in memory, of which the first so many are declared.
 module _ (ss : List Statement) (small : length ss ≤ 64) (fits : all statementFits ss ≡ true) (numbers writers lefts rights : List ℕ)

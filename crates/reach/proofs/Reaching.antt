@@ -2,30 +2,29 @@
 -- rows by walks, are the rows of the definition.
 use mathlib.Core.Path.{_≡_, refl, sym, ap, _∙_, subst}
 use mathlib.Core.Logic.{_⊎_, inl, inr}
-use mathlib.Core.Bool.{Bool, true, false, _||_, not, false≢true, and-assoc, or-false, or-assoc, _&&_, and-false}
+use mathlib.Core.Bool.{Bool, true, false, _||_, not, false≢true, and-assoc, or-false, or-assoc}
 use mathlib.Core.List.{List, [], _∷_, _++_}
-use Prim.Native.Nat.{ℕ, _+_, _^_, _≤_, _<_}
+use Prim.Native.Nat.{ℕ, _+_, _≤_, _<_}
 use native.Mathlib.Omega.{arith}
-use lib.Dec.{eqb, ltb}
+use lib.Dec.{eqb}
 use lib.ListN.{length, getD, set, replicate, length-append, length-set, length-replicate, List·getD-append}
 use lib.Seq.{getD-at, getD-set-same, getD-set-other}
-use borrow.Author.Tests.{eqb-true, eq-eqb, lt-ltb, le-ltb}
+use borrow.Author.Tests.{eqb-true, eq-eqb, lt-ltb}
 use Rattle.basics.specs.Choice.{pick}
 use Rattle.basics.specs.Lists.{all}
 use Rattle.basics.specs.Sets.{nobody, only, join, has}
 use Rattle.basics.proofs.Tests.{below-or-not, or-left, or-right}
 use Rattle.basics.proofs.Counting.{count-both}
-use Rattle.basics.proofs.Sets.{has-nobody, has-only, has-join, same-sets, no-one, set-bound}
+use Rattle.basics.proofs.Sets.{has-nobody, has-only, has-join, same-sets, no-one}
 use Rattle.meaning.specs.declared.Statement.{Statement}
 use Rattle.meaning.specs.Block.{statement}
-use Rattle.meaning.specs.Dependence.{conflicts, dependsOn, Path, direct as straight, through, reachedBy, reachability, reaches, independent}
-use Rattle.meaning.proofs.Paths.{reaches-path}
+use Rattle.meaning.specs.Dependence.{dependsOn, reachedBy, reachability, reaches, independent}
 use Rattle.rows.proofs.Walks.{walk-counts}
 use Rattle.codes.specs.Fitting.{statementFits}
 use Rattle.facts.specs.Tied.{Named}
 use Rattle.reach.specs.Rows.{directRows, reachedFrom, reachedRows, noPath}
 use Rattle.reach.specs.Tied.{Rowed}
-use Rattle.reach.proofs.Direct.{nothing-beyond, none-outside, direct-depends}
+use Rattle.reach.proofs.Direct.{no-dependence, nothing-beyond, direct-depends}
 
 -- Of one row so far: `grown` begins with all that the statement depends on and takes in what each of those reaches; `built` begins with nobody
 -- and takes in each of those with what it reaches. Below j both have met all.
@@ -151,25 +150,6 @@ module _ (ss : List Statement) (small : length ss ≤ 64) (direct : List ℕ)
   pub reached-rows : (s : ℕ) → s < length ss → getD (reachedRows direct (length ss)) s 0 ≡ getD (reachability ss) s nobody
   reached-rows s low = all-match .equal s low
 
--- nothing reaches what does not come before it
-before : (ss : List Statement) (later e : ℕ) → dependsOn ss later e ≡ true → e < later
-before ss later e d = by (below-or-not e later)
-  where
-    by : (e < later) ⊎ (later ≤ e) → e < later
-    by (inl low) = low
-    by (inr high) = absurd (false≢true (sym (nothing-beyond ss later e high) ∙ d))
-
-path-before : {ss : List Statement} {later e : ℕ} → Path ss later e → e < later
-path-before {ss} {later} {e} (straight d) = before ss later e d
-path-before {ss} {later} {e} (through {between} d path) = omega (arith, before ss later between d, path-before path)
-
-unreached : (ss : List Statement) (later e : ℕ) → later ≤ e → reaches ss later e ≡ false
-unreached ss later e h = by (reaches ss later e) refl
-  where
-    by : (t : Bool) → reaches ss later e ≡ t → t ≡ false
-    by true r = absurd (omega (arith, path-before (reaches-path ss later e r)))
-    by false r = refl
-
 -- What the rows say, from the record alone.
 module _ (ss : List Statement) (direct reached : List ℕ) (rowed : Rowed ss direct reached) where
   -- two statements are independent
@@ -181,18 +161,7 @@ module _ (ss : List Statement) (direct reached : List ℕ) (rowed : Rowed ss dir
 
   -- what is no statement depends on nothing
   pub no-row : (s : ℕ) → length ss ≤ s → getD direct s 0 ≡ nobody
-  no-row s high = no-one (getD direct s 0) (λ e. rowed .depends s e ∙ outside (ltb e s) e)
-    where
-      outside : (before : Bool) (e : ℕ) → before && ltb s (length ss) && conflicts (statement ss s) (statement ss e) ≡ false
-      outside before e = rw (le-ltb s (length ss) high, and-false before)
-
-  -- the rows are words
-  pub direct-small : (s : ℕ) → length ss ≤ 64 → getD direct s 0 < 2 ^ 64
-  direct-small s small = set-bound 64 (getD direct s 0) (λ e high. rowed .depends s e ∙ none-outside ss s e (omega arith))
-
-  pub reached-small : (s : ℕ) → length ss ≤ 64 → s < length ss → getD reached s 0 < 2 ^ 64
-  reached-small s small low =
-      set-bound 64 (getD reached s 0) (λ e high. ap (λ (row : ℕ). has row e) (rowed .reaching s low) ∙ unreached ss s e (omega arith))
+  no-row s high = no-one (getD direct s 0) (λ e. rowed .depends s e ∙ no-dependence ss s e high)
 
 -- The law: the rows that the phases fill are the dependences and the paths. `slots` are the statements' slots in memory, of which the first so
 -- many are declared.

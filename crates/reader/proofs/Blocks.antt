@@ -14,8 +14,9 @@ use Rattle.basics.proofs.Lists.{sets-fill, take-rest}
 use Rattle.meaning.specs.declared.Statement.{Statement}
 use Rattle.meaning.specs.Numbers.{Answer, refused, done, demand, andThen}
 use Rattle.meaning.specs.Block.{Block, blank}
-use Rattle.meaning.specs.Format.{Rest, countsFit, readLengths, readStatements, nothingLeft, readBody, readBlock, inMemory}
-use Rattle.meaning.specs.Calls.{BlockRead, blockRead, readBlockCall}
+use Rattle.meaning.specs.Format.{Rest, countsFit, readLengths, readStatements, nothingLeft, readBody, readBlock}
+use Rattle.meaning.specs.Calls.{blockRead, readBlockCall}
+use Rattle.reader.specs.declared.BlockRead.{BlockRead as Read}
 use Rattle.reader.specs.declared.Header.{Header}
 use Rattle.reader.specs.declared.LengthsRead.{LengthsRead}
 use Rattle.reader.specs.Answers.{answer, noLengths, noStatements, refusal, lengthsRead, blockBehind, counted}
@@ -45,14 +46,10 @@ built header lengths answered =
     done (record { variables = header .variables; live = header .live; lengths = lengths; statements = read })
 
 module _ (header : Header) (lengths : List ℕ) (arrays : length lengths ≡ header .arrays) (few : header .arrays ≤ 8) (fit : header .statements ≤ 64) where
-  in-slots :
-      (ss : List Statement) → length ss ≡ header .statements
-      → _≡_ {A = BlockRead}
-      (record {
-        status = 0;
-        block = inMemory (record { variables = header .variables; live = header .live; lengths = lengths; statements = ss });
-      })
-      (record {
+  -- what is read, in its slots
+  abbrev inSlots : List Statement → Read
+  inSlots ss =
+      record {
         status = 0;
         block =
             record {
@@ -63,7 +60,11 @@ module _ (header : Header) (lengths : List ℕ) (arrays : length lengths ≡ hea
               lengths = sets noLengths 0 lengths;
               statements = sets noStatements 0 ss;
             };
-      })
+      }
+
+  in-slots :
+      (ss : List Statement) → length ss ≡ header .statements
+      → blockRead (done (record { variables = header .variables; live = header .live; lengths = lengths; statements = ss })) ≡ answer (inSlots ss)
   in-slots ss count = rw (lengths-fill lengths (omega arith), statements-fill ss (omega arith), arrays, count)
 
   left-over :
@@ -71,21 +72,7 @@ module _ (header : Header) (lengths : List ℕ) (arrays : length lengths ≡ hea
       → blockRead
       (andThen (demand none 4 (done ss)) λ read.
       done (record { variables = header .variables; live = header .live; lengths = lengths; statements = read }))
-      ≡ answer
-      (pick none
-      (record {
-        status = 0;
-        block =
-            record {
-              variables = header .variables;
-              live = header .live;
-              arrays = header .arrays;
-              count = header .statements;
-              lengths = sets noLengths 0 lengths;
-              statements = sets noStatements 0 ss;
-            };
-      })
-      (refusal 4))
+      ≡ answer (pick none (inSlots ss) (refusal 4))
   left-over true ss count = in-slots ss count
   left-over false ss count = refused-read 4
 

@@ -1,15 +1,13 @@
--- What `readOperand` says, by the kind in front and the number of the bytes; and how wide a place and an operand can be.
+-- What `readOperand` says, by the kind in front and the number of the bytes.
 use mathlib.Core.Path.{_≡_, refl, ap}
 use mathlib.Core.List.{List, [], _∷_}
 use Prim.Native.Nat.{ℕ, _+_, _*_, _≤_, _<_}
 use native.Mathlib.Omega.{arith}
 use lib.ListN.{length, getD}
 use borrow.Author.Tests.{le-leb, lt-leb, ne-eqb}
-use Rattle.meaning.specs.declared.Place.{Place}
 use Rattle.meaning.specs.declared.Place.the-variants.{Variable, Cell}
-use Rattle.meaning.specs.declared.Operand.{Operand}
 use Rattle.meaning.specs.declared.Operand.the-variants.{Nothing, Constant, Held}
-use Rattle.meaning.specs.Format.{placeWidth, operandWidth, readOperand}
+use Rattle.meaning.specs.Format.{readOperand}
 use Rattle.reader.proofs.Numbers.{number-four}
 
 pub no-bytes : (bytes : List ℕ) → length bytes ≡ 0 → readOperand bytes ≡ Nothing
@@ -57,12 +55,3 @@ pub unknown :
 unfolding readOperand
 unknown [] p q r = refl
 unknown (kind ∷ rest) p q r = rw (ne-eqb kind 0 p, ne-eqb kind 1 q, ne-eqb kind 2 r)
-
-pub place-small : (p : Place) → placeWidth p ≤ 3
-place-small (Variable v) = omega arith
-place-small (Cell a i) = omega arith
-
-pub operand-small : (o : Operand) → operandWidth o ≤ 5
-operand-small Nothing = omega arith
-operand-small (Constant c) = omega arith
-operand-small (Held p) = omega (arith, place-small p)

@@ -5,14 +5,14 @@ use mathlib.Core.Bool.{Bool, true, false, _&&_, _||_, not, true≢false, false�
 use mathlib.Core.List.{List, [], _∷_}
 use Prim.Native.Nat.{ℕ, _<_}
 use native.Mathlib.Omega.{arith}
-use lib.Dec.{eqb, ltb}
+use lib.Dec.{eqb}
 use lib.ListN.{length}
 use lib.Bits.{bitAnd}
-use borrow.Author.Tests.{eqb-true, eq-eqb, lt-ltb, le-ltb}
+use borrow.Author.Tests.{eqb-true, eq-eqb, lt-ltb}
 use Rattle.basics.specs.Choice.{pick}
 use Rattle.basics.specs.Lists.{any, all}
 use Rattle.basics.specs.Sets.{nobody, only, join, has}
-use Rattle.basics.proofs.Tests.{and-left, and-right, and-both, same-test, passes-or-fails}
+use Rattle.basics.proofs.Tests.{and-left, and-right, and-both, same-test, eqb-back, passes-or-fails}
 use Rattle.basics.proofs.Sets.{has-nobody, has-join, has-only, has-both, has-differ, no-one}
 use Rattle.meaning.specs.declared.Place.{Place}
 use Rattle.meaning.specs.declared.Operand.{Operand}
@@ -21,11 +21,10 @@ use Rattle.meaning.specs.declared.Statement.{Statement}
 use Rattle.meaning.specs.Block.{statement, names}
 use Rattle.codes.specs.Codes.{placeCode, operandCode}
 use Rattle.codes.specs.Fitting.{placeFits, operandFits}
-use Rattle.codes.proofs.Equal.{together}
-use Rattle.codes.proofs.Places.{from-two, below-2569}
 use Rattle.codes.proofs.Operands.{name-codes}
 use Rattle.facts.specs.Places.{naming}
 use Rattle.facts.specs.Tied.{isPlaceCode, Names}
+use Rattle.facts.proofs.Numbers.{beyond-places, place-coded}
 use Rattle.registers.specs.Table.{without, writersOf, endings}
 use Rattle.registers.proofs.Laned.{Laned, two, four, tupleOf}
 
@@ -102,22 +101,16 @@ current-then ends done s =
     by-number i none not-this (inr e) = rw e (without-this (has ends i) (has done i) (none i))
 
 -- the statements that write a lane's place
-place-code : (p : Place) → placeFits p ≡ true → isPlaceCode (placeCode p) ≡ true
-place-code p fits =
-    and-both (ltb 0 (placeCode p)) _ (lt-ltb 0 (placeCode p) (omega (arith, from-two p))) (lt-ltb (placeCode p) 2570 (omega (arith, below-2569 p fits)))
-
 lane-writes : (o : Operand) (p : Place) → operandFits o ≡ true → placeFits p ≡ true
     → eqb (placeCode p) (operandCode o) && isPlaceCode (operandCode o) ≡ names o p
 lane-writes Nothing p fits at-place = and-false (eqb (placeCode p) 0)
 lane-writes (Constant c) p fits at-place =
-    let beyond : isPlaceCode (operandCode (Constant c)) ≡ false =
-    ap (λ (x : Bool). ltb 0 (operandCode (Constant c)) && x) (le-ltb (operandCode (Constant c)) 2570 (omega arith))
-    ∙ and-false (ltb 0 (operandCode (Constant c))) in
-    ap (λ (x : Bool). eqb (placeCode p) (operandCode (Constant c)) && x) beyond ∙ and-false (eqb (placeCode p) (operandCode (Constant c)))
+    ap (λ (x : Bool). eqb (placeCode p) (operandCode (Constant c)) && x) (beyond-places (operandCode (Constant c)) (omega arith))
+    ∙ and-false (eqb (placeCode p) (operandCode (Constant c)))
 lane-writes (Held q) p fits at-place =
-    ap (λ (x : Bool). eqb (placeCode p) (placeCode q) && x) (place-code q fits)
+    ap (λ (x : Bool). eqb (placeCode p) (placeCode q) && x) (place-coded q fits)
     ∙ and-true (eqb (placeCode p) (placeCode q))
-    ∙ together (placeCode p) (placeCode q) (placeCode q) (placeCode p) sym sym
+    ∙ eqb-back (placeCode p) (placeCode q)
     ∙ sym (name-codes (Held q) p fits at-place)
 
 module _ (ss : List Statement) (numbers writers : List ℕ) (named : Names ss (λ s. placeCode (s .destination)) numbers writers) where

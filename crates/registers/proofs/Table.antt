@@ -1,7 +1,7 @@
 -- The table says of each register what it holds and whether it is current: when a tuple is looked for or held, and when a statement is done.
 use mathlib.Core.Path.{_≡_, refl, sym, ap, subst, _∙_}
 use mathlib.Core.Logic.{_⊎_, inl, inr}
-use mathlib.Core.Bool.{Bool, true, false, _&&_, _||_, not, true≢false}
+use mathlib.Core.Bool.{Bool, true, false, _&&_, not}
 use mathlib.Core.Option.{Option, none, some}
 use mathlib.Core.List.{List, [], _∷_, _++_, map}
 use Prim.Native.Nat.{ℕ, suc, _+_, _*_, _%_, _≤_, _<_}
@@ -12,9 +12,9 @@ use lib.ListN.{length, getD, set, replicate, length-set, length-append, length-m
 use lib.Seq.{getD-append-seam, getD-set-same, getD-set-other}
 use lib.Bits.{bitAnd}
 use borrow.Author.Tests.{eqb-true}
-use Rattle.basics.specs.Lists.{any, all, each}
+use Rattle.basics.specs.Lists.{any, all}
 use Rattle.basics.specs.Sets.{only, join, has}
-use Rattle.basics.proofs.Tests.{or-either, below-or-not}
+use Rattle.basics.proofs.Tests.{or-either, neither-left, below-or-not}
 use Rattle.basics.proofs.Sets.{has-join}
 use Rattle.meaning.specs.declared.Operand.{Operand}
 use Rattle.meaning.specs.declared.Statement.{Statement}
@@ -267,17 +267,13 @@ holding-ended ss done s table r register below pending h =
       lane-2 = h .lane-2;
       lane-3 = h .lane-3;
       count = h .count;
-      ends = λ t inside open-still. h .ends t inside (neither (has done t) (has (only s) t) (sym (has-join done (only s) t) ∙ open-still));
+      ends = λ t inside open-still. h .ends t inside (neither-left (has done t) (has (only s) t) (sym (has-join done (only s) t) ∙ open-still));
       current =
           sym
           (current-then (getD table (r + 480) 0) done s
           ∙ ap (λ (x : Bool). x && not (has (getD table (r + 480) 0) s)) (sym (h .current))
           ∙ ap (λ (x : Bool). register .current && not x) (h .ends s below pending));
     }
-  where
-    neither : (x y : Bool) → x || y ≡ false → x ≡ false
-    neither true y e = absurd (true≢false e)
-    neither false y e = refl
 
 pub registers-ended : (ss : List Statement) (done s : ℕ) (registers : List Register) (table : List ℕ) → s < length ss → has done s ≡ false
     → Registers ss done registers table → Registers ss (join done (only s)) (map (ended (statement ss s .destination)) registers) table

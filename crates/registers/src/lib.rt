@@ -3,7 +3,7 @@
 // The table has columns of 96: four lanes, their count, and what ends the register.
 
 ghost use mathlib.Core.Path.{_≡_};
-ghost use Prim.Native.Nat.{_<_, _≤_};
+ghost use Prim.Native.Nat.{_<_};
 ghost use Rattle.registers.specs.Table.{registerAt, setRegister, isCurrent, holdsTuple, servesAt, holderFrom, endings as endingsOf, holdTuple};
 
 pub const REGISTERS: usize = 96;

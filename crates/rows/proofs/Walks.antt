@@ -1,7 +1,7 @@
 -- The laws of walks: who is the lowest and the highest of a set, what is left behind the lowest, and that a walk is a count with a test.
 use mathlib.Core.Path.{_≡_, refl, sym, ap, _∙_}
 use mathlib.Core.Logic.{_⊎_, inl, inr}
-use mathlib.Core.Bool.{Bool, true, false, _&&_, not, and-true, and-false}
+use mathlib.Core.Bool.{Bool, true, false, _&&_, not, false≢true, and-true, and-false}
 use Prim.Native.Nat.{ℕ, zero, suc, _+_, _-_, _*_, _/_, _%_, _^_, _≤_, _<_}
 use native.Mathlib.Nat.{pow-suc, lt-of-le-of-lt, zero-add}
 use native.Mathlib.Omega.{arith}
@@ -146,11 +146,6 @@ module _ {ℓ} {A : Type ℓ} where
   walk-counts n s f a h beyond =
       walk-from n 0 64 s f a (omega arith) h (λ j low. absurd (omega arith)) (λ j high. beyond j (omega arith))
 
-  -- and so over a set below 2 ^ n
-  pub walk-below : (n s : ℕ) (f : ℕ → A → A) (a : A) → n ≤ 64 → s < 2 ^ n
-      → walk 64 s f a ≡ count n 0 (λ i x. elim (has s i) [ true ↦ f i x | false ↦ x ]) a
-  walk-below n s f a h small = walk-counts n s f a h (λ j high. has-beyond n s j small high)
-
 -- the highest of a set, by who is in it
 pub highest-is : (s i : ℕ) → i < 64 → has s i ≡ true → ((j : ℕ) → i < j → has s j ≡ false) → highest s ≡ i
 highest-is s i h e none =
@@ -160,7 +155,7 @@ highest-is s i h e none =
     rw (not-nobody s i e, ← zeros) (omega arith)
   where
     reaches : (s < 2 ^ i) ⊎ (2 ^ i ≤ s) → 2 ^ i ≤ s
-    reaches (inl low) = let z : _≡_ {A = ℕ} 0 1 = cc (has-beyond i s i low (omega arith)) in absurd (omega arith)
+    reaches (inl low) = absurd (false≢true (sym (has-beyond i s i low (omega arith)) ∙ e))
     reaches (inr high) = high
 
 -- the highest of all below n that pass a test is what a count to n finds last

@@ -1,15 +1,14 @@
--- Words of 64 bits as sets of statements: one bit, the bits past the end, the highest; and elements of a table inside its length.
+-- Words of 64 bits as sets of statements: one bit, the highest; and elements of a table inside its length.
 use mathlib.Core.Path.{_≡_, refl, ap, _∙_}
-use mathlib.Core.Bool.{false}
 use mathlib.Core.List.{List, [], _∷_}
 use Prim.Native.Nat.{ℕ, zero, suc, _*_, _-_, _/_, _%_, _^_, _≤_, _<_}
-use native.Mathlib.Nat.{one-mul, div-eq-of-lt}
+use native.Mathlib.Nat.{one-mul}
 use native.Mathlib.Omega.{arith}
 use lib.Dec.{eqb}
 use lib.Bits.{bitAnd, and-mask}
 use lib.Count.{leadingZeros, leading-top}
 use lib.ListN.{length, getD}
-use lib.Pow.{shl-exact, pow-mono}
+use lib.Pow.{shl-exact}
 use borrow.Author.Tests.{eq-eqb, ne-eqb}
 use Rattle.basics.specs.Sets.{has}
 use Rattle.rows.specs.Walk.{highest}
@@ -19,12 +18,6 @@ one-shifted i h = shl-exact 1 i 64 (omega arith) (omega arith) ∙ one-mul (2 ^ 
 
 pub lowest-bit : (s i : ℕ) → eqb (bitAnd (s / 2 ^ i) 1) 1 ≡ has s i
 lowest-bit s i = ap (λ (n : ℕ). eqb n 1) (and-mask (s / 2 ^ i) 1)
-
--- a word holds nobody from 64 on
-pub nobody-past : (s i : ℕ) → s < 2 ^ 64 → 64 ≤ i → has s i ≡ false
-nobody-past s i small past =
-    let none : s / 2 ^ i ≡ 0 = div-eq-of-lt (omega (arith, pow-mono {i = 64} {j = i} past)) in
-    rw none
 
 pub some-digit : (s : ℕ) → s < 2 ^ 64 → (s ≡ 0 → ⊥) → leadingZeros 64 s ≤ 63
 some-digit s small some = let top = leading-top 64 s (omega arith) small in omega (arith, top .1)

@@ -1,6 +1,6 @@
 -- The first k of four slots: what is asked of each of them, and what they cost.
 use mathlib.Core.Path.{_≡_, refl}
-use mathlib.Core.Bool.{Bool, true, false, _&&_, and-true}
+use mathlib.Core.Bool.{Bool, true, false, _&&_, and-true, and-assoc}
 use mathlib.Core.List.{List, [], _∷_, map}
 use Prim.Native.Nat.{ℕ, zero, suc, _+_, min}
 use native.Mathlib.Omega.{arith}
@@ -12,10 +12,6 @@ use Rattle.meaning.specs.declared.Operand.{Operand}
 use Rattle.meaning.specs.Block.{declaresOperand, cellOperand}
 use Rattle.rules.specs.Rules.{slotsDeclared}
 use Rattle.rules.specs.Price.{gatherPrice}
-
-and-three : (a b c : Bool) → (a && b) && c ≡ a && (b && c)
-and-three true b c = refl
-and-three false b c = refl
 
 and-and : (a b c d : Bool) → (a && b) && (c && d) ≡ a && (b && (c && (d && true)))
 and-and true true c d = rw and-true
@@ -30,7 +26,7 @@ module _ (variables : ℕ) (lengths : List ℕ) (o₀ o₁ o₂ o₃ : Operand) 
   slots-all zero = refl
   slots-all (suc zero) = simp and-true
   slots-all (suc (suc zero)) = simp and-true
-  slots-all (suc (suc (suc zero))) = and-three (declaresOperand variables lengths o₀) (declaresOperand variables lengths o₁) (declaresOperand variables lengths o₂ && true)
+  slots-all (suc (suc (suc zero))) = and-assoc (declaresOperand variables lengths o₀) (declaresOperand variables lengths o₁) (declaresOperand variables lengths o₂ && true)
   slots-all (suc (suc (suc (suc k)))) =
       rw (
         take-nil k,

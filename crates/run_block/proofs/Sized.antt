@@ -1,34 +1,19 @@
 -- What is left of the call by the sizes of what is lent: 6, or the run.
 use mathlib.Core.Path.{_≡_}
-use mathlib.Core.Logic.{_⊎_, inl, inr}
 use mathlib.Core.List.{List}
-use Prim.Native.Nat.{ℕ, _≤_, _<_, min}
+use Prim.Native.Nat.{ℕ}
 use native.Mathlib.Nat.{add-zero, le-refl}
-use native.Mathlib.Omega.{arith}
 use lib.ListN.{length, take}
-use lib.Seq.{take-take, take-length, take-all}
+use lib.Seq.{take-take}
 use borrow.Author.Tests.{eq-eqb, ne-eqb}
 use Rattle.basics.specs.Lists.{each, sum}
 use Rattle.meaning.specs.Block.{Block, blockPrice}
-use Rattle.basics.proofs.Tests.{below-or-not}
 use Rattle.meaning.specs.Machine.{Contents, cellAt, runStatement, runBlock}
 use Rattle.run_block.specs.Answers.{afterReading}
 
 -- the cells of all declared arrays
 pub all-cells : (lengths slots : List ℕ) (n : ℕ) → lengths ≡ take n slots → cellAt lengths n 0 ≡ sum (take n slots)
 all-cells lengths slots n e = rw (e, take-take n n slots (le-refl n), add-zero)
-
--- a count past the slots declares them all
-pub within-slots : (slots : List ℕ) (n : ℕ) → take (min n (length slots)) slots ≡ take n slots
-within-slots slots n = either (below-or-not n (length slots))
-  where
-    either : (n < length slots) ⊎ (length slots ≤ n) → take (min n (length slots)) slots ≡ take n slots
-    either (inl below) =
-        let e : min n (length slots) ≡ n = omega arith in
-        rw e
-    either (inr above) =
-        let e : min n (length slots) ≡ length slots = omega arith in
-        rw (e, take-length slots, take-all n slots)
 
 module _ (b : Block) (m : Contents) where
   pub wrong-variables : (length (m .variables) ≡ b .variables → ⊥) → record { status = 6; price = 0; contents = m } ≡ afterReading b m

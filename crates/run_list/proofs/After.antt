@@ -1,22 +1,24 @@
 -- Behind one instruction: the table with the register that was written, how many lanes its registers have, and what is left to run and to pay.
 use mathlib.Core.Path.{_≡_, refl, sym, ap, subst, _∙_}
-use mathlib.Core.Bool.{Bool, true, false}
+use mathlib.Core.Bool.{Bool, true, false, false≢true}
 use mathlib.Core.Option.{Option, none, some}
-use mathlib.Core.List.{List, [], _∷_, _++_, map}
-use Prim.Native.Nat.{ℕ, zero, suc, _+_, _≤_, _<_}
+use mathlib.Core.List.{List, [], _∷_, _++_, map, map-append}
+use Prim.Native.Nat.{ℕ, _+_, _≤_, _<_}
 use native.Mathlib.Nat.{add-zero}
 use native.Mathlib.Numerals.{add-one}
 use native.Mathlib.Omega.{arith}
-use lib.Dec.{eqb, ltb}
-use lib.ListN.{length, getD, take, set, length-map, List·getD-map}
+use lib.Dec.{eqb}
+use lib.ListN.{length, take, set, length-map}
 use lib.Seq.{take-suc-set, take-set-le}
 use borrow.Author.Tests.{ltb-true, eqb-true}
 use Rattle.basics.specs.Choice.{pick}
 use Rattle.basics.proofs.Tests.{and-left, and-right}
 use Rattle.meaning.specs.Block.{Block}
 use Rattle.meaning.specs.Machine.{fetch, fetchPlace}
-use Rattle.meaning.specs.List.{Instruction as Meaning, S, L, C, G, O, W, D, X, isNext, isWritten, isAllowed, writtenAfter, allowed, afterOne, instructionPrice, listPrice, readRecords}
-use Rattle.meaning.specs.Card.{Card, row, lanesOf, secondLanes, operateLanes, runInstruction}
+use Rattle.meaning.specs.List.{Instruction as Meaning, S, L, C, G, O, W, D, X, isNext, isAllowed, writtenAfter, allowed, afterOne, instructionPrice, listPrice, readRecords}
+use Rattle.meaning.specs.Card.{Card, row, lanesOf, secondLanes, runInstruction}
+use Rattle.meaning.proofs.Lengths.{row-length, operate-length}
+use Rattle.theorems.proofs.Frames.{lane-count}
 use Rattle.instructions.specs.declared.Instruction.{Instruction}
 use Rattle.instructions.specs.declared.Instruction.the-variants as Slots
 use Rattle.instructions.specs.Meant.{meant}
@@ -26,7 +28,7 @@ use Rattle.card.specs.Registers.{held}
 use Rattle.card.specs.Step.{writes}
 use Rattle.lists.specs.Whole.{allowedOf}
 use Rattle.run_list.specs.Runs.{countsOf, paid, left}
-use Rattle.run_list.proofs.Turns.{map-append, length-counts}
+use Rattle.run_list.proofs.Turns.{length-counts}
 
 -- a register more, or none
 stored-by : (registers : List Register) (n : ℕ) (w : Register) (test : Bool) → n < length registers
@@ -72,22 +74,8 @@ module _ (b : Block) (registers : List Register) (n : ℕ) (small : n ≤ 96) (s
   stays-small i j e = subst (Small i) e (smalls i)
 
 -- how many lanes the registers have afterwards
-row-length : (k a i : ℕ) → length (row k a i) ≡ k
-row-length zero a i = refl
-row-length (suc k) a i = ap suc (row-length k a (i + 1))
-
-worked-length : (operation : ℕ) (lanes others : List ℕ) → length (operateLanes operation lanes others) ≡ length lanes
-worked-length operation [] others = refl
-worked-length operation (a ∷ lanes) [] = ap suc (worked-length operation lanes [])
-worked-length operation (a ∷ lanes) (b ∷ others) = ap suc (worked-length operation lanes others)
-
 one-more : (registers : List (List ℕ)) (lanes : List ℕ) (k : ℕ) → length lanes ≡ k → map length registers ++ k ∷ [] ≡ map length (registers ++ lanes ∷ [])
 one-more registers lanes k e = sym (map-append length registers (lanes ∷ []) ∙ ap (λ (n : ℕ). map length registers ++ n ∷ []) e)
-
-written-lanes : (c : Card) (r k : ℕ) → isWritten (map length (c .registers)) r k ≡ true → length (lanesOf c r) ≡ k
-written-lanes c r k e =
-    sym (List·getD-map length (c .registers) r [])
-    ∙ eqb-true (getD (map length (c .registers)) r 0) k (and-right (ltb r (length (map length (c .registers)))) _ e)
 
 pub counted : (b : Block) (j : Meaning) (c : Card) → isAllowed b (map length (c .registers)) j ≡ true
     → writtenAfter (map length (c .registers)) j ≡ map length (runInstruction b j c .registers)
@@ -98,20 +86,17 @@ counted b (C r cs) c ok = one-more (c .registers) cs (length cs) refl
 counted b (G r os) c ok = one-more (c .registers) _ (length os) (length-map os (fetch (b .lengths) (c .contents)))
 counted b (O r operation k ra rb) c ok =
     one-more (c .registers) _ k
-    (worked-length operation (lanesOf c ra) (secondLanes c rb)
-    ∙ written-lanes c ra k (and-right (isNext (map length (c .registers)) r) _ (and-left _ _ ok)))
+    (operate-length operation (lanesOf c ra) (secondLanes c rb)
+    ∙ lane-count (c .registers) (map length (c .registers)) ra k refl (and-right (isNext (map length (c .registers)) r) _ (and-left _ _ ok)))
 counted b (W r k a i) c ok = refl
 counted b (D r lane a i) c ok = refl
 counted b (X r lane v) c ok = refl
 
 -- what is left, taken apart
-no-way : {A : Type 0} → false ≡ true → A
-no-way e = let z : _≡_ {A = ℕ} 0 1 = cc in absurd (omega arith)
-
 module _ (b : Block) (written : List ℕ) (j : Meaning) where
   pub one-allowed : (rest : Option (List Meaning)) → allowedOf b written (afterOne j rest) ≡ true → isAllowed b written j ≡ true
   unfolding allowed
-  one-allowed none e = no-way e
+  one-allowed none e = absurd (false≢true e)
   one-allowed (some list) e = and-left _ _ e
 
   pub rest-allowed : (rest : Option (List Meaning)) → allowedOf b written (afterOne j rest) ≡ true → allowedOf b (writtenAfter written j) rest ≡ true
@@ -122,12 +107,12 @@ module _ (b : Block) (written : List ℕ) (j : Meaning) where
   pub one-paid : (price : ℕ) (rest : Option (List Meaning)) → allowedOf b written (afterOne j rest) ≡ true
       → paid b price (afterOne j rest) ≡ paid b (price + instructionPrice (b .statements) j) rest
   unfolding listPrice
-  one-paid price none e = no-way e
+  one-paid price none e = absurd (false≢true e)
   one-paid price (some list) e = omega arith
 
   pub one-left : (c : Card) (rest : Option (List Meaning)) → allowedOf b written (afterOne j rest) ≡ true
       → left b c (afterOne j rest) ≡ left b (runInstruction b j c) rest
-  one-left c none e = no-way e
+  one-left c none e = absurd (false≢true e)
   one-left c (some list) e = refl
 
 -- what is left begins with an instruction
@@ -136,7 +121,7 @@ pub record Read (x : Option Meaning) : Type 0 where
   pub is : x ≡ some instruction
 
 pub is-read : (b : Block) (written : List ℕ) (x : Option Meaning) (rest : Option (List Meaning)) → allowedOf b written (behind x rest) ≡ true → Read x
-is-read b written none rest e = no-way e
+is-read b written none rest e = absurd (false≢true e)
 is-read b written (some j) rest e = record { instruction = j; is = refl }
 
 -- no record is left
@@ -144,4 +129,4 @@ pub none-left : (b : Block) (written : List ℕ) (price : ℕ) (c : Card) (bytes
     → (paid b price (readRecords 0 bytes) ≡ price) × (left b c (readRecords 0 bytes) ≡ c .contents)
 unfolding readRecords listPrice
 none-left b written price c [] e = (omega arith, refl)
-none-left b written price c (byte ∷ bytes) e = no-way e
+none-left b written price c (byte ∷ bytes) e = absurd (false≢true e)

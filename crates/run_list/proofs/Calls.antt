@@ -1,7 +1,8 @@
 -- The call along its tests: what it answers where the block is refused, where the sizes do not fit (6), where the list is refused (8, 9), and
 -- where it is run.
 use mathlib.Core.Path.{_≡_, refl, sym, ap, subst, _∙_}
-use mathlib.Core.Bool.{true, false, _&&_}
+use mathlib.Core.Logic.{⊎-elim}
+use mathlib.Core.Bool.{true, false, _&&_, false≢true}
 use mathlib.Core.Option.{Option, none, some}
 use mathlib.Core.List.{List, []}
 use Prim.Native.Nat.{ℕ, _-_, min}
@@ -10,7 +11,7 @@ use native.Mathlib.Omega.{arith}
 use lib.Dec.{eqb}
 use lib.ListN.{length, take, drop, replicate, length-append, length-replicate}
 use Rattle.basics.proofs.Tests.{passes-or-fails}
-use mathlib.Core.Logic.{⊎-elim}
+use Rattle.basics.proofs.Lists.{take-least}
 use Rattle.meaning.specs.declared.Block.{Block as Slots}
 use Rattle.meaning.specs.Numbers.{Answer, refused, done, demand, andThen}
 use Rattle.meaning.specs.Block.{Block, declared}
@@ -23,11 +24,8 @@ use Rattle.memory.specs.Lent.{lent}
 use Rattle.theorems.proofs.Readable.{refused-number, done-readable, declared-in-memory}
 use Rattle.lists.specs.Whole.{headerFits, allowedOf, status, listStatus}
 use Rattle.lists.proofs.Header.{header-read, header-broken}
-use Rattle.run_block.proofs.Sized.{all-cells, within-slots}
+use Rattle.run_block.proofs.Sized.{all-cells}
 use Rattle.run_list.specs.Runs.{cardOf, paid, left, answered}
-
-no-way : {A : Type 0} → false ≡ true → A
-no-way e = let z : _≡_ {A = ℕ} 0 1 = cc in absurd (omega arith)
 
 -- what follows the block's reading, and what follows the sizes
 listed : Block → List ℕ → Contents → Answer (ℕ × Contents)
@@ -99,7 +97,7 @@ module _ (blockBytes bytes : List ℕ) (m : Contents) (b : Block) (reads : readB
       → ran m (andThen (listOf x) λ list. demand (allowed b [] list) 9 (done (listPrice (b .statements) list, runList b list m)))
       ≡ answered 0 (paid b 0 x) (left b (cardOf [] 0 m) x)
   unfolding runList
-  ran-by none e = no-way e
+  ran-by none e = absurd (false≢true e)
   ran-by (some list) e = rw (e, zero-add)
 
   pub list-ran : rightSize b m ≡ true → allowedOf b [] (readList bytes) ≡ true
@@ -124,7 +122,7 @@ pub list-records : (b : Block) (bytes : List ℕ) → allowedOf b [] (readList b
 list-records b bytes ok =
     ⊎-elim
     (λ (fits : headerFits bytes ≡ true). header-read bytes fits)
-    (λ (broken : headerFits bytes ≡ false). no-way (subst (λ (x : Option (List Instruction)). allowedOf b [] x ≡ true) (header-broken bytes broken) ok))
+    (λ (broken : headerFits bytes ≡ false). absurd (false≢true (subst (λ (x : Option (List Instruction)). allowedOf b [] x ≡ true) (header-broken bytes broken) ok)))
     (passes-or-fails (headerFits bytes))
 
 -- a block in memory has eight slots for its lengths
@@ -138,7 +136,7 @@ unfolding readBlockCall
 eight-slots blockBytes number slots e = ap (λ (r : BlockRead). length (r .block .lengths)) e ∙ eight-by blockBytes (readBlock blockBytes) refl
 
 pub first-slots : (k : ℕ) (l : List ℕ) → length l ≡ 8 → take (min k 8) l ≡ take k l
-first-slots k l e = ap (λ (n : ℕ). take (min k n) l) (sym e) ∙ within-slots l k
+first-slots k l e = ap (λ (n : ℕ). take (min k n) l) (sym e) ∙ take-least k l
 
 -- the test of 6, as the code makes it
 pub size-test : (slots : Slots) (variables cells : List ℕ) (n : ℕ) → n ≡ min (slots .arrays) 8 → length (slots .lengths) ≡ 8

@@ -3,7 +3,7 @@ use mathlib.Core.Path.{_≡_, refl, sym, ap, subst, _∙_}
 use mathlib.Core.Bool.{true, _&&_}
 use mathlib.Core.Option.{Option, none, some}
 use mathlib.Core.List.{List, [], _∷_, _++_, map}
-use Prim.Native.Nat.{ℕ, zero, suc, _+_, _≤_, _<_}
+use Prim.Native.Nat.{ℕ, zero, suc, _≤_, _<_}
 use native.Mathlib.Omega.{arith}
 use lib.ListN.{length, getD, take, length-map, length-take, List·getD-map}
 use lib.Seq.{getD-take}
@@ -45,10 +45,6 @@ take-map : {A B : Type 0} (f : A → B) (k : ℕ) (l : List A) → take k (map f
 take-map f zero l = refl
 take-map f (suc k) [] = refl
 take-map {B = B} f (suc k) (x ∷ l) = ap {B = List B} (λ rest. f x ∷ rest) (take-map f k l)
-
-pub map-append : {A B : Type 0} (f : A → B) (l k : List A) → map f (l ++ k) ≡ map f l ++ map f k
-map-append f [] k = refl
-map-append {B = B} f (x ∷ l) k = ap {B = List B} (λ rest. f x ∷ rest) (map-append f l k)
 
 first-row : (k a i : ℕ) → k ≤ 4 → take k (row 4 a i) ≡ row k a i
 first-row zero a i h = refl

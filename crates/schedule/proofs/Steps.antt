@@ -16,8 +16,9 @@ use Rattle.meaning.specs.declared.Statement.{Statement}
 use Rattle.meaning.specs.Schedule.{lowest, isPack, isReady, lowestUnit, without, singles, withUnit, scheduleFrom, schedule}
 use Rattle.theorems.specs.Units.{Every, occurs, Fits, Units}
 use Rattle.theorems.proofs.Occurs.{every-weaker}
+use Rattle.theorems.proofs.Units.{fits-filled, units-size}
 use Rattle.theorems.proofs.Waiting.{In, sums, sums-append, sums-in, every-in, every-without, lowest-in, Finds, finds}
-use Rattle.theorems.proofs.Schedule.{fits-filled, Waits as Partition, filled, at-most-once, taken as sum-taken, left-waiting, dissolved-waits, all-wait, no-more-than-block}
+use Rattle.theorems.proofs.Schedule.{Waits as Partition, filled, at-most-once, taken as sum-taken, left-waiting, dissolved-waits, all-wait}
 use Rattle.reach.specs.Tied.{Rowed}
 use Rattle.reach.proofs.Reaching.{no-row}
 use Rattle.units.specs.Words.{InOrder}
@@ -296,7 +297,7 @@ module _ (ss : List Statement) (direct reached : List ℕ) (rowed : Rowed ss dir
         partition = all-wait ss units known;
         waits = waits;
         ordered = record { sized = refl; words = λ i h. absurd (omega arith) };
-        room = omega (arith, order-room, no-more-than-block ss units known, flat-sums units);
+        room = omega (arith, order-room, units-size ss units known, flat-sums units);
         table-room = table-room;
         needs-room = needs-room;
       })

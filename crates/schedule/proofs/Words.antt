@@ -7,7 +7,7 @@ use Prim.Native.Nat.{ℕ}
 use lib.Bits.{bitAnd, and-zero-l}
 use lib.ListN.{getD}
 use borrow.Author.Tests.{eqb-true, eq-eqb}
-use Rattle.basics.specs.Lists.{all, each}
+use Rattle.basics.specs.Lists.{each}
 use Rattle.basics.specs.Sets.{nobody, join, has}
 use Rattle.basics.proofs.Tests.{and-left, and-right, and-both, or-either, or-left, or-right, same-test}
 use Rattle.basics.proofs.Sets.{has-both, has-join, same-sets}

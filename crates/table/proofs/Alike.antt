@@ -1,7 +1,7 @@
 -- The block that is taken from a table is written and refused as the block that the table says: a number that is taken as a smaller one is
 -- above the limit all the same.
 use mathlib.Core.Path.{_≡_, refl, sym, ap, ap₂, _∙_}
-use mathlib.Core.Bool.{Bool, true, false, _&&_, false≢true}
+use mathlib.Core.Bool.{Bool, true, false, _&&_, false≢true, and-false}
 use mathlib.Core.List.{List, [], _∷_}
 use mathlib.Core.Logic.{_⊎_, inl, inr}
 use Prim.Native.Nat.{ℕ, zero, suc, _+_, _*_, _≤_, _<_}
@@ -18,7 +18,7 @@ use Rattle.meaning.specs.declared.Operand.{Operand}
 use Rattle.meaning.specs.declared.Operand.the-variants.{Nothing, Constant, Held}
 use Rattle.meaning.specs.declared.Statement.{Statement}
 use Rattle.meaning.specs.declared.Block.{Block as Slots}
-use Rattle.meaning.specs.Numbers.{Answer, refused, done, demand}
+use Rattle.meaning.specs.Numbers.{Answer, done, demand}
 use Rattle.meaning.specs.Block.{declaresPlace, declaresOperand, declaresStatement}
 use Rattle.meaning.specs.Format.{countsFit, lengthFits, isOperand, wellFormed, blockBytes, writeBlock}
 use Rattle.meaning.specs.Calls.{blockWritten, writeBlockCall}
@@ -40,10 +40,6 @@ length-or-large n = either (below-or-not 65535 n)
     either : (65535 < n) ⊎ (n ≤ 65535) → (lengthOf n ≡ n) ⊎ ((lengthOf n ≡ 65535) × (65535 < n))
     either (inl large) = inr (rw (lt-leb n 65535 large), large)
     either (inr small) = inl (rw (le-leb n 65535 small))
-
-and-false : (x : Bool) → x && false ≡ false
-and-false true = refl
-and-false false = refl
 
 -- counts
 small-byte : (n : ℕ) → byteOf n ≤ 64 → byteOf n ≡ n

@@ -1,17 +1,16 @@
 -- The list is allowed: what each step of emission adds names only statements, places, lanes and registers within the rules, fits its
 -- bytes, and keeps within 160 instructions and 96 registers.
 use mathlib.Core.Path.{_≡_, refl, sym, ap, subst, _∙_}
-use mathlib.Core.Logic.{_⊎_, inl, inr}
 use mathlib.Core.Bool.{Bool, true, _&&_, not}
 use mathlib.Core.Option.{Option, none, some}
 use mathlib.Core.List.{List, [], _∷_, _++_, map}
 use Prim.Native.Nat.{ℕ, zero, suc, _+_, _≤_, _<_}
 use native.Mathlib.Omega.{arith}
-use lib.Dec.{eqb, ltb}
+use lib.Dec.{ltb}
 use lib.ListN.{length, getD, length-append, length-map, List·getD-append, List·getD-map}
-use borrow.Author.Tests.{ltb-true, lt-ltb, leb-true, le-leb, eqb-true, eq-eqb}
+use borrow.Author.Tests.{ltb-true, lt-ltb, leb-true, le-leb, eq-eqb}
 use Rattle.basics.specs.Lists.{all, keep, each}
-use Rattle.basics.proofs.Tests.{and-left, and-right, and-both, or-either}
+use Rattle.basics.proofs.Tests.{and-left, and-right, and-both}
 use Rattle.basics.proofs.Finding.{keep-length, all-keep}
 use Rattle.meaning.specs.declared.Place.{Place}
 use Rattle.meaning.specs.declared.Place.the-variants.{Variable, Cell}
@@ -58,13 +57,6 @@ away-all test (Variable v ∷ ps) homes e = away-all test ps (keep (λ h. not (i
 away-all test (Cell a i ∷ ps) homes e = away-all test ps homes e
 
 -- lanes of stores and homes
-pub lanes-two : (k : ℕ) → lanesFit k ≡ true → (2 ≤ k) × (k ≤ 4)
-lanes-two k e = by (or-either (eqb k 2) (eqb k 4) e)
-  where
-    by : (eqb k 2 ≡ true) ⊎ (eqb k 4 ≡ true) → (2 ≤ k) × (k ≤ 4)
-    by (inl two) = (omega (arith, eqb-true k 2 two), omega (arith, eqb-true k 2 two))
-    by (inr four) = (omega (arith, eqb-true k 4 four), omega (arith, eqb-true k 4 four))
-
 row-homeless : (r lane k a i : ℕ) → homesFrom r lane (map Held (row k a i)) ≡ []
 row-homeless r lane zero a i = refl
 row-homeless r lane (suc k) a i = row-homeless r (lane + 1) k a (i + 1)

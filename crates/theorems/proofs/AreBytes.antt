@@ -3,11 +3,11 @@
 use mathlib.Core.Path.{_≡_, refl}
 use mathlib.Core.Bool.{Bool, true, _&&_}
 use mathlib.Core.List.{List, [], _∷_, _++_, map}
-use Prim.Native.Nat.{ℕ, _+_, _<_}
+use Prim.Native.Nat.{ℕ, _+_}
 use native.Mathlib.Omega.{arith}
 use lib.Dec.{ltb, leb}
 use lib.ListN.{length, getD}
-use borrow.Author.Tests.{ltb-true, lt-ltb, leb-true}
+use borrow.Author.Tests.{ltb-true, leb-true}
 use Rattle.basics.specs.Lists.{all, flat}
 use Rattle.basics.proofs.Tests.{and-left, and-right, and-both}
 use Rattle.basics.proofs.Parts.{all-first, all-others, all-append, all-ahead, all-behind, all-flat}
@@ -19,15 +19,11 @@ use Rattle.meaning.specs.declared.Statement.{Statement}
 use Rattle.meaning.specs.Block.{Block, declaresPlace, declaresOperand, declaresStatement}
 use Rattle.meaning.specs.Format.{bytesOf, lengthFits, placeBytes, operandBytes, wellFormed, isOperand, statementWidth, recordBytes, bodyBytes, blockBytes}
 use Rattle.meaning.specs.List.{Instruction, S, L, C, G, O, W, D, X, instructionBytes, ledByLength, oneOrNone, recordsBytes, listBytes}
-use Rattle.theorems.proofs.Bytes.{isByte, bytes-are-bytes}
-use Rattle.theorems.proofs.Records.{statement-width}
+use Rattle.meaning.proofs.Bounds.{statement-width}
+use Rattle.theorems.proofs.Bytes.{isByte, byte, bytes-are-bytes}
 use Rattle.theorems.proofs.Readable.{Readable, readable-length}
 use Rattle.theorems.proofs.Instructions.{instructionFits, instruction-length}
 use Rattle.theorems.proofs.ListRoundTrip.{ListFits}
-
--- a number up to 255 is a byte
-byte : (n : ℕ) → n < 256 → isByte n ≡ true
-byte n h = lt-ltb n 256 h
 
 -- the places, operands and statements that a block within the limits declares
 module _ (b : Block) (h : Readable b) where

@@ -20,10 +20,12 @@ use Rattle.meaning.specs.Numbers.{Answer, refused, done, demand}
 use Rattle.meaning.specs.Block.{Block, declared, declaresStatement}
 use Rattle.meaning.specs.Format.{number, bytesOf, countsFit, lengthFits, wellFormed, statementBytes, statementWidth, readRecord, inFront, readLengths, readStatements, readBlock, inMemory, recordBytes, bodyBytes, blockBytes, writeBlock}
 use Rattle.meaning.specs.Calls.{inRoom, BlockWritten, blockRead, blockWritten, readBlockCall, writeBlockCall}
+use Rattle.meaning.proofs.Lengths.{statement-length}
+use Rattle.meaning.proofs.Bounds.{statement-width}
 use Rattle.theorems.proofs.Bytes.{isByte, number-bytes-fits}
 use Rattle.theorems.proofs.Header.{header-stated}
 use Rattle.theorems.proofs.Reading.{ReaderNumber, Reads, demand-reads, readLengths-more, readStatements-more}
-use Rattle.theorems.proofs.Records.{constantsFit, statement-length, statement-width, record-read}
+use Rattle.theorems.proofs.Records.{constantsFit, record-read}
 use Rattle.theorems.proofs.Readable.{Readable, Counts, counts-fit, length-fits, refused-number, done-readable, done-written, declared-in-memory}
 
 -- a demand that is met

@@ -1,5 +1,5 @@
 -- "Big-endian": a number as so many bytes says the number, and bytes are the bytes of the number that they say.
-use mathlib.Core.Path.{_≡_, refl, ap, ap₂, _∙_}
+use mathlib.Core.Path.{_≡_, refl, ap₂, _∙_}
 use mathlib.Core.Bool.{Bool, true}
 use mathlib.Core.List.{List, [], _∷_}
 use Prim.Native.Nat.{ℕ, zero, suc, _+_, _*_, _/_, _%_, _^_, _<_}
@@ -7,20 +7,19 @@ use native.Mathlib.Nat.{zero-add, add-zero, mul-le-mul-right, pow-succ', mod-lt,
 use native.Mathlib.Omega.{arith}
 use lib.Arith.{mod-mul}
 use lib.Dec.{ltb}
-use lib.ListN.{length, getD}
+use lib.ListN.{length}
 use borrow.Author.Tests.{ltb-true, lt-ltb}
 use Rattle.basics.specs.Lists.{all, each}
 use Rattle.basics.proofs.Tests.{and-both}
-use Rattle.basics.proofs.Parts.{all-first, all-others, all-by-number}
+use Rattle.basics.proofs.Parts.{all-first, all-others}
 use Rattle.meaning.specs.Format.{number, bytesOf}
 
 -- a byte is below 256
 abbrev pub isByte : ℕ → Bool
-isByte byte = ltb byte 256
+isByte n = ltb n 256
 
--- bytes are bytes where each is one by its number
-pub bytes-by-number : (bytes : List ℕ) → ((i : ℕ) → i < length bytes → getD bytes i 0 < 256) → all isByte bytes ≡ true
-bytes-by-number bytes h = all-by-number isByte bytes 0 λ i below. lt-ltb (getD bytes i 0) 256 (h i below)
+pub byte : (n : ℕ) → n < 256 → isByte n ≡ true
+byte n h = lt-ltb n 256 h
 
 -- one more byte behind a number
 abbrev behind : ℕ → ℕ → ℕ
@@ -69,10 +68,6 @@ bytes-low zero high n = refl
 bytes-low (suc w) high n =
     let up : high * 256 ^ suc w + n ≡ high * 256 * 256 ^ w + n = rw pow-succ' (omega arith) in
     ap₂ _∷_ (rw (up, mul-add-div-right (power-positive w), mul-add-mod-self-right high)) (rw up (bytes-low w (high * 256) n))
-
-pub bytes-length : (w n : ℕ) → length (bytesOf w n) ≡ w
-bytes-length zero n = refl
-bytes-length (suc w) n = ap suc (bytes-length w n)
 
 pub bytes-are-bytes : (w n : ℕ) → all isByte (bytesOf w n) ≡ true
 bytes-are-bytes zero n = refl

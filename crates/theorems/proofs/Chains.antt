@@ -3,25 +3,20 @@
 use mathlib.Core.Path.{_≡_, refl, sym, ap, subst, _∙_}
 use mathlib.Core.Logic.{_⊎_, inl, inr}
 use mathlib.Core.Bool.{Bool, true, false}
-use mathlib.Core.Option.{Option, none, some}
+use mathlib.Core.Option.{Option, none, some, Option·some-ne-none}
 use mathlib.Core.List.{List, [], _∷_, _++_, map}
 use Prim.Native.Nat.{ℕ, zero, suc, _≤_, _<_}
 use native.Mathlib.Omega.{arith}
 use lib.Dec.{eqb}
 use lib.ListN.{length, length-map}
 use borrow.Author.Tests.{eqb-true, eq-eqb, ne-eqb}
-use Rattle.basics.proofs.Tests.{below-or-not}
+use Rattle.basics.proofs.Tests.{neither-left, neither-right, below-or-not}
 use Rattle.meaning.specs.Pairs.{Pair, pair, isLeft, partner, chainAlong, chain, admit}
 use Rattle.theorems.specs.Units.{Every, occurs}
-use Rattle.theorems.proofs.Puts.{neither-left, neither-right}
 use Rattle.theorems.proofs.Occurs.{occurs-own, occurs-cons, occurs-behind, fewer}
 
--- nothing is not something
-pub no-some : {A : Type 0} {x : A} → none ≡ some x → ⊥
-no-some e = let z : _≡_ {A = ℕ} 0 1 = cc in omega arith
-
 -- the choice that finds a partner
-abbrev chosen : Bool → Pair → Option ℕ → Option ℕ
+abbrev pub chosen : Bool → Pair → Option ℕ → Option ℕ
 chosen test p other = elim test [ true ↦ some (p .right) | false ↦ other ]
 
 -- who is left in no pair has no partner
@@ -32,7 +27,7 @@ partner-none (p ∷ pairs) s e =
 
 -- a partner is found in a pair, of which all that is known of pairs holds
 pub partner-related : (R : ℕ → ℕ → Type 0) (pairs : List Pair) (s t : ℕ) → Every (λ p. R (p .left) (p .right)) pairs → partner pairs s ≡ some t → R s t
-partner-related R [] s t every e = absurd (no-some e)
+partner-related R [] s t every e = absurd (Option·some-ne-none t (sym e))
 partner-related R (p ∷ pairs) s t every e = either (eqb (p .left) s) refl e (λ f. partner-related R pairs s t (every .1) f)
   where
     either : (test : Bool) → eqb (p .left) s ≡ test → chosen test p (partner pairs s) ≡ some t → (partner pairs s ≡ some t → R s t) → R s t
@@ -46,7 +41,7 @@ abbrev pub rights : List Pair → List ℕ
 rights pairs = map (λ p. p .right) pairs
 
 pub partner-right : (pairs : List Pair) (s t : ℕ) → partner pairs s ≡ some t → 0 < occurs t (rights pairs)
-partner-right [] s t e = absurd (no-some e)
+partner-right [] s t e = absurd (Option·some-ne-none t (sym e))
 partner-right (p ∷ pairs) s t e = either (eqb (p .left) s) e (λ f. partner-right pairs s t f)
   where
     either : (test : Bool) → chosen test p (partner pairs s) ≡ some t → (partner pairs s ≡ some t → 0 < occurs t (rights pairs))
@@ -58,7 +53,7 @@ partner-right (p ∷ pairs) s t e = either (eqb (p .left) s) e (λ f. partner-ri
 
 -- a partner among the first pairs, and none there
 pub partner-ahead : (pairs more : List Pair) (s t : ℕ) → partner pairs s ≡ some t → partner (pairs ++ more) s ≡ some t
-partner-ahead [] more s t e = absurd (no-some e)
+partner-ahead [] more s t e = absurd (Option·some-ne-none t (sym e))
 partner-ahead (p ∷ pairs) more s t e = either (eqb (p .left) s) e (λ f. partner-ahead pairs more s t f)
   where
     either : (test : Bool) → chosen test p (partner pairs s) ≡ some t → (partner pairs s ≡ some t → partner (pairs ++ more) s ≡ some t)
@@ -72,7 +67,7 @@ partner-behind (p ∷ pairs) more s e = either (eqb (p .left) s) e (λ f. partne
   where
     either : (test : Bool) → chosen test p (partner pairs s) ≡ none → (partner pairs s ≡ none → partner (pairs ++ more) s ≡ partner more s)
         → chosen test p (partner (pairs ++ more) s) ≡ partner more s
-    either true f later = absurd (no-some (sym f))
+    either true f later = absurd (Option·some-ne-none (p .right) f)
     either false f later = later f
 
 -- a chain, to its end
@@ -83,10 +78,6 @@ pub data Chain (pairs : List Pair) : ℕ → List ℕ → Type 0 where
 pub chain-long : {pairs : List Pair} {s : ℕ} {c : List ℕ} → Chain pairs s c → 0 < length c
 chain-long (ends e) = omega arith
 chain-long (goes e rest) = omega arith
-
-pub chain-begins : {pairs : List Pair} {s : ℕ} {c : List ℕ} → Chain pairs s c → 0 < occurs s c
-chain-begins {s = s} (ends e) = omega (arith, occurs-own s [])
-chain-begins {s = s} (goes {c = c} e rest) = omega (arith, occurs-own s c)
 
 -- with as many steps as it has, the definition finds it
 abbrev onward : ℕ → List Pair → Option ℕ → List ℕ
@@ -159,5 +150,5 @@ module _ (pairs : List Pair) (l r : ℕ) (free : partner pairs l ≡ none) where
       goes (partner-ahead pairs (pair l r ∷ []) s t e) (chain-joined rest (behind (occurs-cons l s c there)) onto)
     where
       behind : (l ≡ s) ⊎ (0 < occurs l c) → 0 < occurs l c
-      behind (inl f) = absurd (no-some (sym free ∙ ap (partner pairs) f ∙ e))
+      behind (inl f) = absurd (Option·some-ne-none t (sym (sym free ∙ ap (partner pairs) f ∙ e)))
       behind (inr k) = k

@@ -8,7 +8,7 @@ use native.Mathlib.Omega.{arith}
 use lib.ListN.{length, getD}
 use borrow.Author.Tests.{not-true}
 use Rattle.basics.specs.Lists.{any, all}
-use Rattle.basics.proofs.Tests.{and-left, and-right}
+use Rattle.basics.proofs.Tests.{and-left, and-right, neither-left, neither-right}
 use Rattle.meaning.specs.declared.Place.{Place}
 use Rattle.meaning.specs.declared.Operand.{Operand}
 use Rattle.meaning.specs.declared.Operand.the-variants.{Held}
@@ -16,7 +16,7 @@ use Rattle.meaning.specs.Block.{same, names}
 use Rattle.meaning.specs.Emission.{Register, ended}
 use Rattle.theorems.specs.Memory.{Memory, put, value, putEach}
 use Rattle.theorems.specs.Steps.{distinct, noRegister, holding, endedBy}
-use Rattle.theorems.proofs.Puts.{neither-left, neither-right, same-back, put-own, put-other, value-put}
+use Rattle.theorems.proofs.Puts.{same-back, put-own, put-other, value-put}
 
 -- the lanes of each register that is current are the values of its tuple
 abbrev pub Right : Memory → Register → List ℕ → Type 0

@@ -7,7 +7,7 @@ use Prim.Native.Nat.{ℕ, _+_, _≤_, _<_}
 use native.Mathlib.Omega.{arith}
 use lib.Dec.{eqb, ltb, leb}
 use lib.ListN.{length, getD, length-append}
-use borrow.Author.Tests.{ltb-true, lt-ltb, leb-true, le-leb, eqb-true}
+use borrow.Author.Tests.{ltb-true, leb-true, le-leb, eqb-true}
 use Rattle.basics.specs.Lists.{all, flat}
 use Rattle.basics.proofs.Tests.{and-left, and-right, and-both}
 use Rattle.basics.proofs.Parts.{all-at, all-append}
@@ -16,14 +16,11 @@ use Rattle.meaning.specs.declared.Operand.{Operand}
 use Rattle.meaning.specs.declared.Operand.the-variants.{Nothing, Constant, Held}
 use Rattle.meaning.specs.Block.{Block, declaresOperand}
 use Rattle.meaning.specs.List.{Instruction, S, L, C, G, O, W, D, X, oneOrNone, lanesFit, isNext, isWritten, hasLane, oneWritten, declaresRow, isAllowed, writtenAfter, allowed}
-use Rattle.theorems.proofs.Bytes.{isByte}
+use Rattle.meaning.proofs.Bounds.{lanes-two}
+use Rattle.theorems.proofs.Bytes.{isByte, byte}
 use Rattle.theorems.proofs.Readable.{Readable, readable-length}
 use Rattle.theorems.proofs.Instructions.{operationFits, instructionFits}
 use Rattle.theorems.proofs.AreBytes.{placeFields, fieldsFit}
-use Rattle.theorems.proofs.Allowed.{lanes-two}
-
-byte : (n : ℕ) → n < 256 → isByte n ≡ true
-byte n h = lt-ltb n 256 h
 
 lanes-byte : (k : ℕ) → lanesFit k ≡ true → k < 256
 lanes-byte k e = omega (arith, lanes-two k e .1)

@@ -9,9 +9,9 @@ use lib.Dec.{ltb}
 use lib.ListN.{length}
 use borrow.Author.Tests.{ltb-true}
 use Rattle.basics.specs.Lists.{all, flat}
-use Rattle.basics.proofs.Tests.{and-left, and-right, and-both, or-left, or-right}
+use Rattle.basics.proofs.Tests.{and-left, and-right, and-both, or-left}
 use Rattle.basics.proofs.Parts.{all-append, all-ahead, all-behind, pick-holds}
-use Rattle.basics.proofs.Finding.{any-append, all-implies}
+use Rattle.basics.proofs.Finding.{all-implies}
 use Rattle.meaning.specs.declared.Place.{Place}
 use Rattle.meaning.specs.declared.Place.the-variants.{Variable, Cell}
 use Rattle.meaning.specs.declared.Operand.{Operand}
@@ -29,32 +29,26 @@ use Rattle.theorems.proofs.Puts.{same-self}
 use Rattle.theorems.proofs.Rows.{row-tuple}
 use Rattle.theorems.proofs.Named.{tuple-all, in-block}
 use Rattle.theorems.proofs.Steps.{emission-steps}
+use Rattle.theorems.proofs.Frames.{in-first, in-second}
 
 -- these places are all among those
 abbrev pub within : List Place → List Place → Bool
 within ps qs = all (isIn qs) ps
 
--- more places to be among
-in-behind : (ps qs : List Place) (p : Place) → isIn qs p ≡ true → isIn (ps ++ qs) p ≡ true
-in-behind ps qs p e = any-append (same p) ps qs ∙ or-right (isIn ps p) _ e
-
-in-ahead : (ps qs : List Place) (p : Place) → isIn ps p ≡ true → isIn (ps ++ qs) p ≡ true
-in-ahead ps qs p e = any-append (same p) ps qs ∙ or-left (isIn ps p) _ e
-
 within-self : (ps : List Place) → within ps ps ≡ true
 within-self [] = refl
 within-self (p ∷ ps) =
     and-both (isIn (p ∷ ps) p) _ (or-left (same p p) _ (same-self p))
-    (all-implies (isIn ps) (isIn (p ∷ ps)) (λ q e. in-behind (p ∷ []) ps q e) ps (within-self ps))
+    (all-implies (isIn ps) (isIn (p ∷ ps)) (λ q e. in-second (p ∷ []) ps q e) ps (within-self ps))
 
 within-both : (ps qs all-of : List Place) → within ps all-of ≡ true → within qs all-of ≡ true → within (ps ++ qs) all-of ≡ true
 within-both ps qs all-of e f = all-append (isIn all-of) ps qs e f
 
 within-more : (ps qs more : List Place) → within ps qs ≡ true → within ps (qs ++ more) ≡ true
-within-more ps qs more e = all-implies (isIn qs) (isIn (qs ++ more)) (λ p h. in-ahead qs more p h) ps e
+within-more ps qs more e = all-implies (isIn qs) (isIn (qs ++ more)) (λ p h. in-first qs more p h) ps e
 
 within-behind : (ps more qs : List Place) → within ps qs ≡ true → within ps (more ++ qs) ≡ true
-within-behind ps more qs e = all-implies (isIn qs) (isIn (more ++ qs)) (λ p h. in-behind more qs p h) ps e
+within-behind ps more qs e = all-implies (isIn qs) (isIn (more ++ qs)) (λ p h. in-second more qs p h) ps e
 
 -- what one statement has, the block has
 one-of-all : (f : Statement → List Place) (ss : List Statement) (s : ℕ) → s < length ss → within (f (statement ss s)) (flat (map f ss)) ≡ true

@@ -2,17 +2,17 @@
 -- on nothing but the cells that it reads and the variables.
 use mathlib.Core.Path.{_≡_, refl, sym, ap, ap₂, subst, _∙_}
 use mathlib.Core.Logic.{_⊎_, inl, inr}
-use mathlib.Core.Bool.{Bool, true, false, _&&_, _||_, false≢true}
-use mathlib.Core.List.{List, [], _∷_, _++_, map}
-use Prim.Native.Nat.{ℕ, zero, suc, _+_}
+use mathlib.Core.Bool.{Bool, true, false, _&&_, _||_, false≢true, or-false}
+use mathlib.Core.List.{List, [], _∷_, _++_, map, map-append}
+use Prim.Native.Nat.{ℕ}
 use native.Mathlib.Omega.{arith}
 use lib.Dec.{ltb}
 use lib.ListN.{length, getD, length-map, List·getD-map}
 use borrow.Author.Tests.{eqb-true}
 use Rattle.basics.specs.Choice.{pick}
 use Rattle.basics.specs.Lists.{flat, each}
-use Rattle.basics.proofs.Tests.{and-left, and-right, or-either, or-left, or-right}
-use Rattle.basics.proofs.Finding.{any-append, map-append}
+use Rattle.basics.proofs.Tests.{and-left, and-right, or-either, or-left, or-right, neither-left, neither-right}
+use Rattle.basics.proofs.Finding.{any-append}
 use Rattle.meaning.specs.declared.Place.{Place}
 use Rattle.meaning.specs.declared.Place.the-variants.{Variable, Cell}
 use Rattle.meaning.specs.declared.Operand.{Operand}
@@ -22,10 +22,11 @@ use Rattle.meaning.specs.Block.{Block, statement, same}
 use Rattle.meaning.specs.Machine.{operate}
 use Rattle.meaning.specs.List.{Instruction, S, L, C, G, O, W, D, X, isNext, isWritten, isAllowed, writtenAfter, allowed}
 use Rattle.meaning.specs.Card.{row, operateLanes}
+use Rattle.meaning.proofs.Lengths.{row-length, operate-length}
 use Rattle.theorems.specs.Memory.{Memory, put, value, result, ran, putEach}
 use Rattle.theorems.specs.Machine.{Machine, laneIn, secondIn, filled, step, machineAfter}
 use Rattle.theorems.specs.Footprint.{cellOf, cellRead, statementReads, statementWrites, instructionReads, instructionWrites, blockReads, blockWrites, listReads, listWrites, isIn}
-use Rattle.theorems.proofs.Puts.{neither-left, neither-right, same-self, same-back, put-other}
+use Rattle.theorems.proofs.Puts.{same-self, same-back, put-other}
 
 -- among two lists of places
 in-neither : (ps qs : List Place) (p : Place) → isIn (ps ++ qs) p ≡ false → (isIn ps p ≡ false) × (isIn qs p ≡ false)
@@ -33,10 +34,10 @@ in-neither ps qs p e =
     let both : isIn ps p || isIn qs p ≡ false = sym (any-append (same p) ps qs) ∙ e in
     (neither-left (isIn ps p) _ both, neither-right (isIn ps p) _ both)
 
-in-first : (ps qs : List Place) (p : Place) → isIn ps p ≡ true → isIn (ps ++ qs) p ≡ true
+pub in-first : (ps qs : List Place) (p : Place) → isIn ps p ≡ true → isIn (ps ++ qs) p ≡ true
 in-first ps qs p e = any-append (same p) ps qs ∙ or-left (isIn ps p) _ e
 
-in-second : (ps qs : List Place) (p : Place) → isIn qs p ≡ true → isIn (ps ++ qs) p ≡ true
+pub in-second : (ps qs : List Place) (p : Place) → isIn qs p ≡ true → isIn (ps ++ qs) p ≡ true
 in-second ps qs p e = any-append (same p) ps qs ∙ or-right (isIn ps p) _ e
 
 in-either : (ps qs : List Place) (p : Place) → isIn (ps ++ qs) p ≡ true → (isIn ps p ≡ true) ⊎ (isIn qs p ≡ true)
@@ -96,11 +97,7 @@ agree-put Known m other p n k e agree q known = by (same p q) refl known
     by : (t : Bool) → same p q ≡ t → OrIn Known (p ∷ []) q → pick t n (m q) ≡ pick t k (other q)
     by true is h = e
     by false is (inl h) = agree q h
-    by false is (inr h) = absurd (false≢true (sym is ∙ same-back p q ∙ one (same q p) h))
-      where
-        one : (t : Bool) → t || false ≡ true → t ≡ true
-        one true h = refl
-        one false h = h
+    by false is (inr h) = absurd (false≢true (sym is ∙ same-back p q ∙ sym (or-false (same q p)) ∙ h))
 
 agree-variable : (Known : Place → Type 0) (m other : Memory) (v n k : ℕ) → n ≡ k → AgreeOn Known m other → AgreeOn Known (put m (Variable v) n) (put other (Variable v) k)
 agree-variable Known m other v n k e agree q known = agree-put Known m other (Variable v) n k e agree q (inl known)
@@ -174,16 +171,7 @@ block-depends Known variables (s ∷ ss) m other known agree p h =
     p (either-more Known (statementWrites s) (blockWrites ss) p h)
 
 -- the lanes of each register are as many as the rules count
-operate-length : (operation : ℕ) (lanes others : List ℕ) → length (operateLanes operation lanes others) ≡ length lanes
-operate-length operation [] others = refl
-operate-length operation (a ∷ lanes) [] = ap suc (operate-length operation lanes [])
-operate-length operation (a ∷ lanes) (b ∷ others) = ap suc (operate-length operation lanes others)
-
-row-length : (k a i : ℕ) → length (row k a i) ≡ k
-row-length zero a i = refl
-row-length (suc k) a i = ap suc (row-length k a (i + 1))
-
-lane-count : (registers : List (List ℕ)) (lanes : List ℕ) (r k : ℕ) → map length registers ≡ lanes → isWritten lanes r k ≡ true → length (getD registers r []) ≡ k
+pub lane-count : (registers : List (List ℕ)) (lanes : List ℕ) (r k : ℕ) → map length registers ≡ lanes → isWritten lanes r k ≡ true → length (getD registers r []) ≡ k
 lane-count registers lanes r k e there =
     sym (List·getD-map {A = List ℕ} length registers r []) ∙ ap (λ (all-lanes : List ℕ). getD all-lanes r 0) e ∙ eqb-true (getD lanes r 0) k (and-right (ltb r (length lanes)) _ there)
 

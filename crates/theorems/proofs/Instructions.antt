@@ -2,7 +2,6 @@
 use mathlib.Core.Path.{_≡_, refl, sym, ap, ap₂, _∙_}
 use mathlib.Core.Bool.{Bool, true, false, _&&_, not}
 use mathlib.Core.Option.{Option, none, some}
-use mathlib.Core.Logic.{_⊎_, inl, inr}
 use mathlib.Core.List.{List, [], _∷_, _++_, map, append-assoc}
 use Prim.Native.Nat.{ℕ, zero, suc, _+_, _*_, _^_, _≤_}
 use native.Mathlib.Omega.{arith}
@@ -12,13 +11,15 @@ use lib.Seq.{length-take-le, drop-drop, drop-at}
 use borrow.Author.Tests.{ltb-true, lt-ltb, eqb-true, eq-eqb, not-true}
 use Rattle.basics.specs.Choice.{pick}
 use Rattle.basics.specs.Lists.{all, sum, flat}
-use Rattle.basics.proofs.Tests.{and-left, and-right, and-both, or-either}
+use Rattle.basics.proofs.Tests.{and-left, and-right, and-both}
 use Rattle.basics.proofs.Parts.{all-first, all-others, all-take, all-drop, pick-holds, whole-front, spelled-front, spelled-whole, no-elements}
 use Rattle.meaning.specs.declared.Operand.{Operand}
 use Rattle.meaning.specs.Format.{number, bytesOf, operandBytes, operandWidth, readOperand, isOperand}
 use Rattle.meaning.specs.List.{Instruction, S, L, C, G, O, W, D, X, instructionBytes, lanesFit, readConstants, readOperands, form, field, readS, readL, readC, readG, readO, readW, readD, readX, readInstruction, operandsFill}
+use Rattle.meaning.proofs.Lengths.{operand-length}
+use Rattle.meaning.proofs.Bounds.{operand-width, lanes-two}
 use Rattle.theorems.proofs.Bytes.{isByte, number-bytes-fits, bytes-number}
-use Rattle.theorems.proofs.Operands.{constantFits, operand-length, operand-width, constant-fits, operand-fits, operand-written, operand-read}
+use Rattle.theorems.proofs.Operands.{constantFits, constant-fits, operand-fits, operand-written, operand-read}
 
 -- "operation, ra, rb (copy: no rb)": an operation that is known, with rb exactly where it is no copy
 abbrev pub operationFits : ℕ → Option ℕ → Bool
@@ -35,14 +36,6 @@ instructionFits (O r operation k ra rb) = lanesFit k && operationFits operation 
 instructionFits (W r k a i) = lanesFit k
 instructionFits (D r lane a i) = true
 instructionFits (X r lane v) = true
-
--- "lanes k = 2 or 4"
-lanes-few : (k : ℕ) → lanesFit k ≡ true → k ≤ 4
-lanes-few k e = by (or-either (eqb k 2) (eqb k 4) e)
-  where
-    by : (eqb k 2 ≡ true) ⊎ (eqb k 4 ≡ true) → k ≤ 4
-    by (inl two) = omega (arith, eqb-true k 2 two)
-    by (inr four) = omega (arith, eqb-true k 4 four)
 
 -- the constants of C
 constants-length : (cs : List ℕ) → length (flat (map (bytesOf 4) cs)) ≡ 4 * length cs
@@ -115,8 +108,8 @@ operands-fit (suc n) bytes are =
 pub instruction-length : (i : Instruction) → instructionFits i ≡ true → length (instructionBytes i) ≤ 23
 instruction-length (S s) fits = omega arith
 instruction-length (L r k a i) fits = omega arith
-instruction-length (C r cs) fits = omega (arith, constants-length cs, lanes-few (length cs) (and-left _ _ fits))
-instruction-length (G r os) fits = omega (arith, operands-length os, operands-width os, lanes-few (length os) (and-left _ _ (and-left _ _ fits)))
+instruction-length (C r cs) fits = omega (arith, constants-length cs, lanes-two (length cs) (and-left _ _ fits) .1)
+instruction-length (G r os) fits = omega (arith, operands-length os, operands-width os, lanes-two (length os) (and-left _ _ (and-left _ _ fits)) .1)
 instruction-length (O r operation k ra none) fits = omega arith
 instruction-length (O r operation k ra (some rb)) fits = omega arith
 instruction-length (W r k a i) fits = omega arith

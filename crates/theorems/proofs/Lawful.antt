@@ -1,21 +1,21 @@
 -- The lists that are made are within the rules: neither 8 nor 9 is given for them, and they are read back from their bytes.
-use mathlib.Core.Path.{_≡_, refl, sym, ap, _∙_}
+use mathlib.Core.Path.{_≡_, refl}
 use mathlib.Core.Bool.{true}
 use mathlib.Core.Option.{some}
-use mathlib.Core.List.{List, [], _∷_, map}
+use mathlib.Core.List.{List, []}
 use Prim.Native.Nat.{ℕ, zero, suc, _+_, _≤_}
 use native.Mathlib.Omega.{arith}
 use lib.Dec.{ltb}
 use lib.ListN.{length}
 use borrow.Author.Tests.{lt-ltb}
-use Rattle.basics.specs.Lists.{all, sum, flat}
+use Rattle.basics.specs.Lists.{all, flat}
 use Rattle.basics.proofs.Tests.{and-both}
 use Rattle.basics.proofs.Parts.{pick-holds}
-use Rattle.meaning.specs.declared.Statement.{Statement}
 use Rattle.meaning.specs.Block.{Block, blockPrice}
 use Rattle.meaning.specs.List.{Instruction, allowed, listPrice, listBytes, readList}
 use Rattle.meaning.specs.Emission.{next, emission}
 use Rattle.meaning.specs.Choice.{scheduledUnits, packedList, plainFrom, plainList, chosenList}
+use Rattle.meaning.proofs.Lengths.{plain-length}
 use Rattle.theorems.specs.Units.{Units}
 use Rattle.theorems.proofs.Bytes.{isByte}
 use Rattle.theorems.proofs.Records.{constantsFit}
@@ -23,24 +23,10 @@ use Rattle.theorems.proofs.Readable.{Readable}
 use Rattle.theorems.proofs.Instructions.{instructionFits}
 use Rattle.theorems.proofs.ListRoundTrip.{ListFits, list-back}
 use Rattle.theorems.proofs.AreBytes.{fieldsFit, list-bytes}
-use Rattle.theorems.proofs.Sums.{over, any-order}
 use Rattle.theorems.proofs.Steps.{finished, emission-steps}
-use Rattle.theorems.proofs.Prices.{flat-below}
+use Rattle.theorems.proofs.Units.{units-size}
 use Rattle.theorems.proofs.Limits.{Sound, sound}
 use Rattle.theorems.proofs.Fields.{fields-fit}
-
--- there are as many statements in the units as in the block
-ones : (order : List ℕ) → sum (map (λ s. 1) order) ≡ length order
-ones [] = refl
-ones (s ∷ order) = omega (arith, ones order)
-
-over-ones : (n i : ℕ) → over (λ s. 1) n i ≡ n
-over-ones zero i = refl
-over-ones (suc n) i = omega (arith, over-ones n (suc i))
-
-pub units-size : (ss : List Statement) (units : List (List ℕ)) → Units ss units → length (flat units) ≡ length ss
-units-size ss units u =
-    sym (ones (flat units)) ∙ any-order (λ s. 1) (length ss) (flat units) (flat-below ss units (u .fit)) (u .once) ∙ over-ones (length ss) 0
 
 -- within the rules: "at most 160" instructions, each of which fits, fields that fit their bytes, and nothing named against the rules
 pub record Lawful (b : Block) (list : List Instruction) : Type 0 where
@@ -68,10 +54,6 @@ module _ (b : Block) (readable : Readable b) (constants : all constantsFit (b .s
   packed-lawful = lawful-from b (packedList b) readable (end .list packed-registers) (omega (arith, end .short, size)) (end .fit)
 
 -- S for every statement in block order
-plain-length : (n i : ℕ) → length (plainFrom n i) ≡ n
-plain-length zero i = refl
-plain-length (suc n) i = ap suc (plain-length n (i + 1))
-
 plain-fits : (n i : ℕ) → all instructionFits (plainFrom n i) ≡ true
 plain-fits zero i = refl
 plain-fits (suc n) i = plain-fits n (i + 1)

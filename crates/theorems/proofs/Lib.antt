@@ -14,6 +14,8 @@ pub mod Cells
 pub mod View
 pub mod Occurs
 pub mod Orders
+pub mod Sums
+pub mod Units
 pub mod Strokes
 pub mod Totals
 pub mod Chains
@@ -26,7 +28,6 @@ pub mod Schedule
 pub mod ScheduleRuns
 pub mod Landing
 pub mod Steps
-pub mod Sums
 pub mod Prices
 pub mod Rows
 pub mod Named

@@ -3,7 +3,7 @@
 use mathlib.Core.Path.{_≡_, refl, sym, ap, ap₂, subst, _∙_}
 use mathlib.Core.Bool.{true, _&&_, not}
 use mathlib.Core.Option.{Option, none, some}
-use mathlib.Core.List.{List, [], _∷_, _++_, map}
+use mathlib.Core.List.{List, [], _∷_, _++_, map, map-append}
 use Prim.Native.Nat.{ℕ, suc, _+_, _*_, _^_, _≤_, _<_}
 use native.Mathlib.Omega.{arith}
 use lib.Dec.{eqb, ltb}
@@ -13,7 +13,7 @@ use borrow.Author.Tests.{ltb-true, lt-ltb, eqb-true, eq-eqb}
 use Rattle.basics.specs.Lists.{all, first, flat}
 use Rattle.basics.proofs.Tests.{and-left, and-right, and-both}
 use Rattle.basics.proofs.Parts.{all-append}
-use Rattle.basics.proofs.Finding.{each-append, first-passes, first-all, keep-shorter, all-keep, all-implies, flat-append, map-append}
+use Rattle.basics.proofs.Finding.{each-append, first-passes, first-all, keep-shorter, all-keep, all-implies, flat-append}
 use Rattle.meaning.specs.declared.Place.{Place}
 use Rattle.meaning.specs.declared.Operand.{Operand}
 use Rattle.meaning.specs.declared.Operand.the-variants.{Constant}
@@ -21,6 +21,7 @@ use Rattle.meaning.specs.Block.{Block, statement, left, right, declaresOperand}
 use Rattle.meaning.specs.Format.{isOperand}
 use Rattle.meaning.specs.List.{Instruction, S, O, X, lanesFit, isNext, isWritten, oneWritten, isAllowed, writtenAfter, allowed}
 use Rattle.meaning.specs.Emission.{Register, Home, Emitted, emit, isHome, ended, notInLane, written, extractFrom, rowStart, hold, next, tupleAt, destinations, operationOf, homesFrom}
+use Rattle.meaning.proofs.Bounds.{lanes-two}
 use Rattle.theorems.specs.Steps.{Tuple, Load, in-row, constants, gathered, Pack, holding, Holds, HoldsRight, Reached, start, extracts, loads, single, pack, placesOf, stores, endedBy, awayFrom, packed}
 use Rattle.theorems.proofs.Operands.{constantFits}
 use Rattle.theorems.proofs.Records.{constantsFit}
@@ -28,7 +29,7 @@ use Rattle.theorems.proofs.Readable.{Readable}
 use Rattle.theorems.proofs.Instructions.{operationFits, instructionFits}
 use Rattle.theorems.proofs.Rows.{row-tuple, constants-tuple}
 use Rattle.theorems.proofs.Named.{operation-known, tuple-there, tuple-declared, tuple-fits, destinations-declared}
-use Rattle.theorems.proofs.Allowed.{widths, writtenBy, widths-ended, widths-endedBy, width-at, widths-length, away-length, away-all, lanes-two, lanes-used, stored-none, stored-fit, allowed-more, allowed-one, row-declared, homeFits, home-stays, register-there, homes-fit, stored-allowed}
+use Rattle.theorems.proofs.Allowed.{widths, writtenBy, widths-ended, widths-endedBy, width-at, widths-length, away-length, away-all, lanes-used, stored-none, stored-fit, allowed-more, allowed-one, row-declared, homeFits, home-stays, register-there, homes-fit, stored-allowed}
 
 -- what holds after these units, and so many loads for the next one
 pub record Sound (b : Block) (n : ℕ) (units : List (List ℕ)) (e : Emitted) : Type 0 where

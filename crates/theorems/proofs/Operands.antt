@@ -12,11 +12,10 @@ use borrow.Author.Tests.{ltb-true, lt-ltb, leb-true, le-leb, eqb-true}
 use Rattle.basics.specs.Lists.{all}
 use Rattle.basics.proofs.Tests.{and-left, and-right}
 use Rattle.basics.proofs.Parts.{all-others, all-take, pick-holds, spelled-front}
-use Rattle.meaning.specs.declared.Place.{Place}
 use Rattle.meaning.specs.declared.Place.the-variants.{Variable, Cell}
 use Rattle.meaning.specs.declared.Operand.{Operand}
 use Rattle.meaning.specs.declared.Operand.the-variants.{Nothing, Constant, Held}
-use Rattle.meaning.specs.Format.{number, bytesOf, placeBytes, operandBytes, placeWidth, operandWidth, readOperand, isOperand}
+use Rattle.meaning.specs.Format.{number, bytesOf, operandBytes, operandWidth, readOperand, isOperand}
 use Rattle.theorems.proofs.Bytes.{isByte, number-below, number-bytes-fits, bytes-number}
 
 -- "All values are unsigned 32-bit": a constant is below 2 ^ 32
@@ -24,26 +23,6 @@ abbrev pub constantFits : Operand → Bool
 constantFits Nothing = true
 constantFits (Constant c) = ltb c (2 ^ 32)
 constantFits (Held p) = true
-
--- the width is the number of bytes
-pub place-length : (p : Place) → length (placeBytes p) ≡ placeWidth p
-place-length (Variable v) = refl
-place-length (Cell a i) = refl
-
-pub operand-length : (o : Operand) → length (operandBytes o) ≡ operandWidth o
-operand-length Nothing = refl
-operand-length (Constant c) = refl
-operand-length (Held p) = place-length p
-
-pub place-width : (p : Place) → placeWidth p ≤ 3
-place-width (Variable v) = omega arith
-place-width (Cell a i) = omega arith
-
-pub operand-width : (o : Operand) → operandWidth o ≤ 5
-operand-width Nothing = omega arith
-operand-width (Constant c) = omega arith
-operand-width (Held (Variable v)) = omega arith
-operand-width (Held (Cell a i)) = omega arith
 
 -- bytes begin with those of the operand
 abbrev Begins : List ℕ → Operand → Type 0

@@ -91,9 +91,17 @@ numbers-range n i s h = (low (below-or-not s i), high (below-or-not s (i + n)))
     high (inl k) = k
     high (inr k) = absurd (omega (arith, numbers-high n i s k))
 
-pub length-numbers : (n i : ℕ) → length (numbers n i) ≡ n
+length-numbers : (n i : ℕ) → length (numbers n i) ≡ n
 length-numbers zero i = refl
 length-numbers (suc n) i = ap suc (length-numbers n (i + 1))
+
+-- numbers below n of which none comes twice are at most n
+pub few-numbers : (n : ℕ) (xs : List ℕ) → Every (λ s. s < n) xs → ((s : ℕ) → s < n → occurs s xs ≤ 1) → length xs ≤ n
+few-numbers n xs range once = omega (arith, fewer xs (numbers n 0) (λ s. within s (below-or-not s n)), length-numbers n 0)
+  where
+    within : (s : ℕ) → (s < n) ⊎ (n ≤ s) → occurs s xs ≤ occurs s (numbers n 0)
+    within s (inl below) = omega (arith, once s below, numbers-inside n 0 s (omega arith) (omega arith))
+    within s (inr beyond) = omega (arith, occurs-range n xs range s beyond)
 
 -- they ascend, below any end
 abbrev Ascends : ℕ → ℕ → ℕ → Type 0

@@ -2,7 +2,7 @@
 -- independent, no statement is left in two pairs, and every statement of the block is in one chain, once.
 use mathlib.Core.Path.{_≡_, refl, sym, ap, ap₂, subst, _∙_}
 use mathlib.Core.Logic.{_⊎_, inl, inr}
-use mathlib.Core.Bool.{Bool, true, false, _&&_, _||_, not, false≢true}
+use mathlib.Core.Bool.{Bool, true, false, _&&_, _||_, not, false≢true, or-false, or-assoc}
 use mathlib.Core.Option.{none}
 use mathlib.Core.List.{List, [], _∷_, _++_}
 use Prim.Native.Nat.{ℕ, _+_, _*_, _≤_, _<_}
@@ -12,14 +12,13 @@ use lib.ListN.{length}
 use borrow.Author.Tests.{eqb-true, eqb-false, not-true}
 use Rattle.basics.specs.Choice.{pick}
 use Rattle.basics.specs.Lists.{any}
-use Rattle.basics.proofs.Tests.{and-left, and-right, below-or-not}
+use Rattle.basics.proofs.Tests.{and-left, and-right, neither-left, neither-right, below-or-not}
 use Rattle.meaning.specs.declared.Statement.{Statement}
 use Rattle.meaning.specs.Block.{statement}
 use Rattle.meaning.specs.Dependence.{independent}
 use Rattle.meaning.specs.Pairs.{Pair, pair, isLeft, isRight, partner, chain, alike, mayBeAdmitted, admit}
 use Rattle.meaning.proofs.Paths.{Apart, independent-apart}
 use Rattle.theorems.specs.Units.{Every, Pairwise, Alike, occurs}
-use Rattle.theorems.proofs.Puts.{neither-left, neither-right}
 use Rattle.theorems.proofs.Occurs.{occurs-append, occurs-range, every-append, pairwise-append}
 use Rattle.theorems.proofs.Totals.{total, total-term, total-two, total-same, total-plus, total-times, total-one}
 use Rattle.theorems.proofs.Chains.{partner-none, partner-related, Chain, ends, goes, chain-whole, chain-kept, chain-joined}
@@ -36,16 +35,8 @@ none-like s (x ∷ xs) e =
     ap₂ (λ (test : Bool) (n : ℕ). pick test 1 0 + n) (neither-left (eqb s x) (any (eqb s) xs) e) (none-like s xs (neither-right (eqb s x) (any (eqb s) xs) e))
 
 one-more : (pairs : List Pair) (p : Pair) (s : ℕ) → isRight (admit pairs p) s ≡ isRight pairs s || eqb (p .right) s
-one-more [] p s = or-nothing (eqb (p .right) s)
-  where
-    or-nothing : (a : Bool) → a || false ≡ a
-    or-nothing true = refl
-    or-nothing false = refl
-one-more (q ∷ pairs) p s = ap (λ (test : Bool). eqb (q .right) s || test) (one-more pairs p s) ∙ regroup (eqb (q .right) s) (isRight pairs s) (eqb (p .right) s)
-  where
-    regroup : (a b c : Bool) → a || (b || c) ≡ a || b || c
-    regroup true b c = refl
-    regroup false b c = refl
+one-more [] p s = or-false (eqb (p .right) s)
+one-more (q ∷ pairs) p s = ap (λ (test : Bool). eqb (q .right) s || test) (one-more pairs p s) ∙ sym (or-assoc (eqb (q .right) s) (isRight pairs s) (eqb (p .right) s))
 
 -- what it takes to be admitted
 record May (ss : List Statement) (pairs : List Pair) (l r : ℕ) : Type 0 where

@@ -18,9 +18,10 @@ use Rattle.meaning.specs.Block.{Block, blank, statement, statementPrice, blockP
 use Rattle.meaning.specs.List.{Instruction, S, O, X, instructionPrice, listPrice, isVector}
 use Rattle.meaning.specs.Emission.{Emitted, written, rowStart, next, destinations, operationOf, emission}
 use Rattle.meaning.specs.Choice.{scheduledUnits, packedList, plainFrom, plainList, chosenList}
-use Rattle.theorems.specs.Units.{Every, occurs, Fits, Units}
+use Rattle.theorems.specs.Units.{Every, occurs, Units}
 use Rattle.theorems.specs.Steps.{Load, in-row, constants, gathered, Reached, start, extracts, loads, single, pack, stores}
 use Rattle.theorems.proofs.Sums.{over, over-list, any-order}
+use Rattle.theorems.proofs.Units.{flat-below}
 use Rattle.theorems.proofs.Steps.{emission-steps}
 
 -- S for every statement in block order
@@ -89,14 +90,6 @@ all-singles {ss} (pack {e = e} unit ra rb p few hl hr r) plain =
     absurd
     (last-plain (e .instructions) o
     (before-plain (e .instructions ++ o ∷ []) (stores (next e) (destinations ss unit) (rowStart (destinations ss unit))) plain) refl)
-
-every-append : {A : Type 0} (P : A → Type 0) (xs ys : List A) → Every P xs → Every P ys → Every P (xs ++ ys)
-every-append P [] ys e f = f
-every-append P (x ∷ xs) ys e f = (e .0, every-append P xs ys (e .1) f)
-
-pub flat-below : (ss : List Statement) (units : List (List ℕ)) → Every (Fits ss) units → Every (λ s. s < length ss) (flat units)
-flat-below ss [] f = tt
-flat-below ss (unit ∷ units) f = every-append (λ (s : ℕ). s < length ss) unit (flat units) (f .0 .in-range) (flat-below ss units (f .1))
 
 -- the packed list costs what the block costs where it has no vector instruction
 packed-plain : (ss : List Statement) (live : ℕ) (units : List (List ℕ)) → Units ss units → any isVector (emission ss live units) ≡ false

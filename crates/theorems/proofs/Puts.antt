@@ -6,7 +6,7 @@ use Prim.Native.Nat.{ℕ}
 use lib.Dec.{eqb}
 use borrow.Author.Tests.{eqb-true, eq-eqb}
 use Rattle.basics.specs.Choice.{pick}
-use Rattle.basics.proofs.Tests.{and-left, and-right, and-both, same-test}
+use Rattle.basics.proofs.Tests.{and-left, and-right, and-both, neither-left, neither-right, same-test}
 use Rattle.meaning.specs.declared.Place.{Place}
 use Rattle.meaning.specs.declared.Place.the-variants.{Variable, Cell}
 use Rattle.meaning.specs.declared.Operand.{Operand}
@@ -16,15 +16,6 @@ use Rattle.meaning.specs.Block.{same, names, reads}
 use Rattle.meaning.specs.Machine.{operate}
 use Rattle.meaning.specs.Dependence.{conflicts}
 use Rattle.theorems.specs.Memory.{Memory, put, value, result, ran}
-
--- both parts of a failed "or"
-pub neither-left : (a b : Bool) → a || b ≡ false → a ≡ false
-neither-left true b e = e
-neither-left false b e = refl
-
-pub neither-right : (a b : Bool) → a || b ≡ false → b ≡ false
-neither-right true b e = absurd (false≢true (sym e))
-neither-right false b e = e
 
 -- two places are the same where they are equal
 pub same-self : (p : Place) → same p p ≡ true

@@ -1,7 +1,7 @@
 -- "It is ready when all that its statements depend on is scheduled": what is in the set of scheduled statements, and what readiness says.
 use mathlib.Core.Path.{_≡_, refl, sym, ap, subst, _∙_}
 use mathlib.Core.Logic.{_⊎_, inl, inr}
-use mathlib.Core.Bool.{Bool, true, false, _&&_, _||_, not, false≢true}
+use mathlib.Core.Bool.{Bool, true, false, _&&_, _||_, not, false≢true, or-false}
 use mathlib.Core.List.{List, [], _∷_}
 use Prim.Native.Nat.{ℕ, _+_, _≤_, _<_}
 use native.Mathlib.Omega.{arith}
@@ -21,10 +21,6 @@ use Rattle.theorems.proofs.Occurs.{occurs-own, occurs-cons}
 -- one more in the set
 has-one : (set s t : ℕ) → has (join set (only s)) t ≡ has set t || eqb s t
 has-one set s t = has-join set (only s) t ∙ ap (λ (own : Bool). has set t || own) (has-only s t)
-
-or-nothing : (a : Bool) → a || false ≡ a
-or-nothing true = refl
-or-nothing false = refl
 
 -- a unit's statements are in the set with it, those that were in it stay, and no others are
 pub with-kept : (unit : List ℕ) (set t : ℕ) → has set t ≡ true → has (withUnit unit set) t ≡ true
@@ -46,7 +42,7 @@ with-absent (s ∷ rest) set t h =
     with-absent rest (join set (only s)) t (omega arith)
     ∙ has-one set s t
     ∙ ap (λ (own : Bool). has set t || own) (ne-eqb s t differ)
-    ∙ or-nothing (has set t)
+    ∙ or-false (has set t)
   where
     differ : s ≡ t → ⊥
     differ e = omega (arith, h, occurs-own t rest, ap (λ (x : ℕ). occurs t (x ∷ rest)) e)

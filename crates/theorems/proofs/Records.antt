@@ -3,10 +3,10 @@
 use mathlib.Core.Path.{_≡_, refl, sym, ap, ap₂, _∙_}
 use mathlib.Core.Bool.{Bool, true, false, _&&_, not, false≢true}
 use mathlib.Core.List.{List, [], _∷_, _++_, append-assoc, append-nil}
-use Prim.Native.Nat.{ℕ, suc, _+_, _≤_}
+use Prim.Native.Nat.{ℕ, _+_}
 use native.Mathlib.Omega.{arith}
 use lib.Dec.{eqb, leb}
-use lib.ListN.{length, getD, drop, length-append}
+use lib.ListN.{length, getD, drop}
 use lib.Seq.{drop-drop, drop-at}
 use borrow.Author.Tests.{eqb-true, eq-eqb}
 use Rattle.basics.specs.Choice.{pick}
@@ -21,25 +21,14 @@ use Rattle.meaning.specs.declared.Record.{Record}
 use Rattle.meaning.specs.declared.Record.the-variants.{Broken, Whole}
 use Rattle.meaning.specs.Block.{isCopy}
 use Rattle.meaning.specs.Format.{placeBytes, operandBytes, placeWidth, operandWidth, readOperand, isOperand, statementBytes, statementWidth, wellFormed, readLeft, readRight, readStatement, whole, readBehind, readRecord}
+use Rattle.meaning.proofs.Lengths.{place-length, operand-length, statement-length}
 use Rattle.theorems.proofs.Bytes.{isByte}
-use Rattle.theorems.proofs.Operands.{constantFits, place-length, operand-length, place-width, operand-width, operand-fits, operand-written, operand-read}
+use Rattle.theorems.proofs.Operands.{constantFits, operand-fits, operand-written, operand-read}
 use Rattle.theorems.proofs.Reading.{Reads, said}
 
 -- both of a statement's constants, where it has them, are below 2 ^ 32
 abbrev pub constantsFit : Statement → Bool
 constantsFit s = constantFits (s .left) && constantFits (s .right)
-
--- the width is the number of bytes
-pub statement-length : (s : Statement) → length (statementBytes s) ≡ statementWidth s
-statement-length s =
-    let d = place-length (s .destination) in
-    let l = operand-length (s .left) in
-    let r = operand-length (s .right) in
-    ap suc (length-append (placeBytes (s .destination) ++ operandBytes (s .left)) (operandBytes (s .right)))
-    ∙ omega (arith, length-append (placeBytes (s .destination)) (operandBytes (s .left)))
-
-pub statement-width : (s : Statement) → statementWidth s ≤ 14
-statement-width s = omega (arith, place-width (s .destination), operand-width (s .left), operand-width (s .right))
 
 -- three parts and what is behind them
 three-parts : (p l r behind two one whole : List ℕ) → r ++ behind ≡ two → l ++ two ≡ one → p ++ one ≡ whole → p ++ l ++ r ++ behind ≡ whole

@@ -18,20 +18,11 @@ use Rattle.meaning.specs.declared.Statement.{Statement}
 use Rattle.meaning.specs.Dependence.{dependsOn}
 use Rattle.meaning.specs.Schedule.{lowest, isPack, statementReady, isReady, lowestUnit, without, singles, withUnit, scheduleFrom, schedule}
 use Rattle.theorems.specs.Units.{Every, Pairwise, occurs, Fits, Units}
-use Rattle.theorems.proofs.Occurs.{occurs-own, occurs-cons, occurs-range, every-weaker, every-append, every-by, pairwise-append, fewer}
-use Rattle.theorems.proofs.Orders.{numbers, numbers-inside, length-numbers}
+use Rattle.theorems.proofs.Occurs.{occurs-own, occurs-cons, occurs-range, every-weaker, every-append, every-by, pairwise-append}
+use Rattle.theorems.proofs.Units.{fits-filled, units-size}
 use Rattle.theorems.proofs.Combination.{one-fits}
 use Rattle.theorems.proofs.Waiting.{In, sums, occurs-flat, sums-append, every-in, sums-in, holder, Finds, finds, without-sums, every-without, singles-often, singles-every, weight, singles-weight, weight-twice}
 use Rattle.theorems.proofs.Ready.{with-present, with-absent, all-occurs, ready-depends, ready-behind}
-
--- a unit that fits has a statement
-pub fits-filled : (ss : List Statement) (unit : List ℕ) → Fits ss unit → 0 < length unit
-fits-filled ss unit fits = either (fits .lanes)
-  where
-    either : (length unit ≡ 1) ⊎ ((length unit ≡ 2) ⊎ (length unit ≡ 4)) → 0 < length unit
-    either (inl e) = omega arith
-    either (inr (inl e)) = omega arith
-    either (inr (inr e)) = omega arith
 
 -- a test that passes counts 1
 counts-as : {test outcome : Bool} → test ≡ outcome → pick {A = ℕ} test 1 0 ≡ pick outcome 1 0
@@ -244,15 +235,6 @@ module _ (ss : List Statement) where
   scheduled zero = no-step
   scheduled (suc n) = one-step n (scheduled n)
 
-  -- twice as many steps as statements are enough
-  pub no-more-than-block : (units : List (List ℕ)) → Units ss units → length (flat units) ≤ length ss
-  no-more-than-block units known =
-      omega (arith, fewer (flat units) (numbers (length ss) 0) (λ s. within s (below-or-not s (length ss))), length-numbers (length ss) 0)
-    where
-      within : (s : ℕ) → (s < length ss) ⊎ (length ss ≤ s) → occurs s (flat units) ≤ occurs s (numbers (length ss) 0)
-      within s (inl below) = omega (arith, known .once s below, numbers-inside (length ss) 0 s (omega arith) (omega arith))
-      within s (inr above) = omega (arith, occurs-flat s units, sums-range units (known .fit) s above)
-
   -- at first all units wait and nothing is scheduled
   pub all-wait : (units : List (List ℕ)) → Units ss units → Waits units nobody
   all-wait units known =
@@ -261,11 +243,12 @@ module _ (ss : List Statement) where
         once = λ t below. omega (arith, known .once t below, occurs-flat t units, counts-as (has-nobody t));
       }
 
+  -- twice as many steps as statements are enough
   schedule-made : (units : List (List ℕ)) → Units ss units → Made units (schedule ss units)
   unfolding schedule
   schedule-made units known =
       scheduled (length ss + length ss) units nobody (all-wait units known)
-      (omega (arith, weight-twice units, no-more-than-block units known))
+      (omega (arith, weight-twice units, units-size ss units known))
 
   -- The schedule of units that fit, with each statement of the block in one of them, is made of such units again.
   pub schedule-units : (units : List (List ℕ)) → Units ss units → Units ss (schedule ss units)

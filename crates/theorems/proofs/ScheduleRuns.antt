@@ -2,14 +2,15 @@
 use mathlib.Core.Path.{_≡_, refl, sym, ap, _∙_}
 use mathlib.Core.Logic.{_⊎_, inl, inr}
 use mathlib.Core.Bool.{Bool, true, false, _&&_, false≢true}
-use mathlib.Core.List.{List, [], _∷_, _++_}
+use mathlib.Core.List.{List, [], _∷_}
 use Prim.Native.Nat.{ℕ, _≤_, _<_}
-use native.Mathlib.Omega.{arith}
 use lib.Dec.{ltb}
 use lib.ListN.{length}
 use borrow.Author.Tests.{lt-ltb}
 use Rattle.basics.specs.Lists.{flat, each}
 use Rattle.basics.proofs.Tests.{and-both, passes-or-fails, below-or-not}
+use Rattle.basics.proofs.Counting.{above}
+use Rattle.basics.proofs.Finding.{each-append}
 use Rattle.meaning.specs.declared.Statement.{Statement}
 use Rattle.meaning.specs.Block.{statement}
 use Rattle.meaning.specs.Dependence.{conflicts, dependsOn, direct}
@@ -21,16 +22,13 @@ use Rattle.meaning.proofs.Paths.{Apart}
 use Rattle.theorems.specs.Memory.{Memory, ran, atOneStroke}
 use Rattle.theorems.specs.Units.{Every, Pairwise, Fits, Units}
 use Rattle.theorems.proofs.Puts.{conflicts-back}
-use Rattle.theorems.proofs.Occurs.{every-append, pairwise-weaker}
+use Rattle.theorems.proofs.Occurs.{pairwise-weaker}
 use Rattle.theorems.proofs.Orders.{ranAt, order-runs}
+use Rattle.theorems.proofs.Units.{flat-below}
 use Rattle.theorems.proofs.Strokes.{stroke-free}
 use Rattle.theorems.proofs.Pairing.{pairs-admitted}
 use Rattle.theorems.proofs.Combination.{combined-units}
 use Rattle.theorems.proofs.Schedule.{Free, schedule-units, schedule-ordered}
-
-each-append {ℓ κ} : {A : Type ℓ} {S : Type κ} (f : A → S → S) (xs ys : List A) (s : S) → each f (xs ++ ys) s ≡ each f ys (each f xs s)
-each-append f [] ys s = refl
-each-append f (x ∷ xs) ys s = each-append f xs ys (f x s)
 
 module _ (ss : List Statement) where
   -- a conflict of two statements of the block is a dependence of the later one on the earlier
@@ -50,9 +48,6 @@ module _ (ss : List Statement) where
       clash e (inl before) =
           apart .no-way-back (direct (conflict-depends t s before (apart .second) (back e (conflicts (statement ss t) (statement ss s)) refl)))
       clash e (inr behind) = apart .no-way (direct (conflict-depends s t (above behind (apart .differ)) (apart .first) e))
-        where
-          above : t ≤ s → (s ≡ t → ⊥) → t < s
-          above h differ = omega arith
 
       either : (conflicts (statement ss s) (statement ss t) ≡ true) ⊎ (conflicts (statement ss s) (statement ss t) ≡ false)
           → conflicts (statement ss s) (statement ss t) ≡ false
@@ -66,10 +61,6 @@ module _ (ss : List Statement) where
       ap (each (atOneStroke ss) units) (stroke-free ss unit unit (λ s. refl) (pairwise-weaker apart-free unit (fit .0 .apart)) m)
       ∙ strokes-run units (fit .1) (each (ranAt ss) unit m)
       ∙ sym (each-append (ranAt ss) unit (flat units) m)
-
-  flat-range : (units : List (List ℕ)) → Every (Fits ss) units → Every (λ s. s < length ss) (flat units)
-  flat-range [] fit = tt
-  flat-range (unit ∷ units) fit = every-append (λ s. s < length ss) unit (flat units) (fit .0 .in-range) (flat-range units (fit .1))
 
   combined : Units ss (combine ss (extend ss (seed ss)))
   combined = combined-units ss (extend ss (seed ss)) (pairs-admitted ss)
@@ -89,4 +80,4 @@ module _ (ss : List Statement) where
   pub schedule-runs : (m : Memory) → each (atOneStroke ss) (scheduledUnits ss) m ≡ each ran ss m
   schedule-runs m =
       strokes-run (scheduledUnits ss) (units-of .fit) m
-      ∙ order-runs ss (flat (scheduledUnits ss)) (flat-range (scheduledUnits ss) (units-of .fit)) (units-of .once) units-ordered m
+      ∙ order-runs ss (flat (scheduledUnits ss)) (flat-below ss (scheduledUnits ss) (units-of .fit)) (units-of .once) units-ordered m

@@ -1,7 +1,7 @@
 -- Memory with some variables in lanes: what is seen of it, and how X, a store and a landing in a lane change what is seen.
 use mathlib.Core.Path.{_≡_, refl, sym, ap, ap₂, fun-ext, _∙_}
 use mathlib.Core.Bool.{Bool, true, false, not}
-use mathlib.Core.Option.{some}
+use mathlib.Core.Option.{some, Option·some-ne-none}
 use mathlib.Core.List.{List, [], _∷_, _++_, map, append-nil}
 use Prim.Native.Nat.{ℕ, _+_}
 use native.Mathlib.Omega.{arith}
@@ -11,7 +11,7 @@ use lib.Seq.{append-snoc}
 use borrow.Author.Tests.{ltb-true, eqb-true, not-true}
 use Rattle.basics.specs.Choice.{pick}
 use Rattle.basics.specs.Lists.{any, all, keep, first}
-use Rattle.basics.proofs.Tests.{and-left, and-right}
+use Rattle.basics.proofs.Tests.{and-left, and-right, neither-left, neither-right}
 use Rattle.basics.proofs.Finding.{keep-yes, keep-no, first-yes, first-no, keep-append}
 use Rattle.meaning.specs.declared.Place.{Place}
 use Rattle.meaning.specs.declared.Place.the-variants.{Variable, Cell}
@@ -22,7 +22,7 @@ use Rattle.meaning.specs.Emission.{Home, isHome, notInLane, homesFrom}
 use Rattle.theorems.specs.Memory.{Memory, put, value, putEach}
 use Rattle.theorems.specs.Steps.{fromMemory, distinct, awayFrom}
 use Rattle.theorems.specs.Machine.{laneIn, seen}
-use Rattle.theorems.proofs.Puts.{neither-left, neither-right, same-true, put-other, put-again, put-swap}
+use Rattle.theorems.proofs.Puts.{same-true, put-other, put-again, put-swap}
 
 -- a place put to what it holds
 pub put-held : (m : Memory) (p : Place) → put m p (m p) ≡ m
@@ -58,7 +58,7 @@ module _ (m : Memory) (registers : List (List ℕ)) where
   -- what is in a lane is seen as it is there
   pub seen-home : (homes : List Home) (v : ℕ) (h : Home) → first (isHome v) homes ≡ some h
       → seen m registers homes (Variable v) ≡ laneIn registers (h .register) (h .lane)
-  seen-home [] v h e = let z : _≡_ {A = ℕ} 0 1 = cc in absurd (omega arith)
+  seen-home [] v h e = absurd (Option·some-ne-none h (sym e))
   seen-home (x ∷ homes) v h e = by (isHome v x) refl (seen-home homes v h)
     where
       by : (t : Bool) → isHome v x ≡ t → (first (isHome v) homes ≡ some h → seen m registers homes (Variable v) ≡ laneIn registers (h .register) (h .lane))

@@ -203,7 +203,7 @@ stored-run ss registers r ps values m sized own = by (rowStart (map Held ps)) re
         ∙ sym (cells-row k (beginning .0) (beginning .1) values m)
         ∙ ap (λ (qs : List Place). cellsIn qs values m) (sym is))
 
-destinations-held : (ss : List Statement) (unit : List ℕ) → destinations ss unit ≡ map Held (placesOf ss unit)
+pub destinations-held : (ss : List Statement) (unit : List ℕ) → destinations ss unit ≡ map Held (placesOf ss unit)
 destinations-held ss [] = refl
 destinations-held ss (s ∷ unit) = ap (λ (rest : List Operand). Held (statement ss s .destination) ∷ rest) (destinations-held ss unit)
 
@@ -223,7 +223,7 @@ landedOn e list ps tuple =
       homes = awayFrom ps (e .homes) ++ homesFrom (next e) 0 tuple;
     }
 
-ended-length : (ps : List Place) (registers : List Register) → length (endedBy ps registers) ≡ length registers
+pub ended-length : (ps : List Place) (registers : List Register) → length (endedBy ps registers) ≡ length registers
 ended-length [] registers = refl
 ended-length (p ∷ ps) registers = ended-length ps _ ∙ length-map registers _
 

@@ -5,13 +5,14 @@ use mathlib.Core.Bool.{false, _||_}
 use mathlib.Core.List.{List, [], _∷_, map}
 use Prim.Native.Nat.{ℕ}
 use Rattle.basics.specs.Lists.{each}
+use Rattle.basics.proofs.Tests.{neither-left, neither-right}
 use Rattle.meaning.specs.declared.Place.{Place}
 use Rattle.meaning.specs.declared.Statement.{Statement}
 use Rattle.meaning.specs.Block.{statement, same, reads}
 use Rattle.meaning.specs.Dependence.{conflicts}
 use Rattle.theorems.specs.Memory.{Memory, put, result, putEach, atOneStroke}
 use Rattle.theorems.specs.Units.{Every, Pairwise, occurs}
-use Rattle.theorems.proofs.Puts.{neither-left, neither-right, put-swap, result-put}
+use Rattle.theorems.proofs.Puts.{put-swap, result-put}
 use Rattle.theorems.proofs.Occurs.{pairwise-weaker}
 use Rattle.theorems.proofs.Orders.{reorder, ranAt}
 

@@ -156,6 +156,7 @@ cells-faithful b one other right right′ h =
         ∙ h (at .array) (at .index)
         ∙ cell-seen b other (at .array) (at .index) (at .declared) (at .inside))
 
+-- So contents of the right size that are one memory are the same.
 pub view-faithful : (b : Block) (one other : Contents) → rightSize b one ≡ true → rightSize b other ≡ true → view b one ≡ view b other → one ≡ other
 view-faithful b one other right right′ e =
     λ i. record { variables = variables-same i; cells = cells-same i }

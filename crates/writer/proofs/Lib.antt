@@ -1,5 +1,4 @@
 pub mod Refused
-pub mod Cells
 pub mod Widths
 pub mod Run
 pub mod Whole

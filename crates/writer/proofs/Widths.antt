@@ -1,46 +1,19 @@
--- A record's parts: each has as many bytes as its width says, and stored one after the other they are the record.
-use mathlib.Core.Path.{_≡_, refl, sym}
+-- A record: how many bytes it has, and its parts, which stored one after the other are the record.
+use mathlib.Core.Path.{_≡_, sym}
 use mathlib.Core.List.{List, _++_}
-use Prim.Native.Nat.{ℕ, suc, _+_, _≤_}
+use Prim.Native.Nat.{ℕ, suc, _+_}
 use native.Mathlib.Nat.{add-assoc}
 use native.Mathlib.Numerals.{add-one, add-two}
 use native.Mathlib.Omega.{arith}
 use lib.ListN.{length, set, length-append}
 use lib.Seq.{sets}
 use Rattle.basics.proofs.Stores.{sets-append}
-use Rattle.meaning.specs.declared.Place.{Place}
-use Rattle.meaning.specs.declared.Place.the-variants.{Variable, Cell}
-use Rattle.meaning.specs.declared.Operand.{Operand}
-use Rattle.meaning.specs.declared.Operand.the-variants.{Nothing, Constant, Held}
 use Rattle.meaning.specs.declared.Statement.{Statement}
-use Rattle.meaning.specs.Format.{placeBytes, operandBytes, placeWidth, operandWidth, statementWidth, recordBytes}
-
-pub place-width : (p : Place) → length (placeBytes p) ≡ placeWidth p
-place-width (Variable v) = refl
-place-width (Cell a i) = refl
-
-pub operand-width : (o : Operand) → length (operandBytes o) ≡ operandWidth o
-operand-width Nothing = refl
-operand-width (Constant c) = refl
-operand-width (Held p) = place-width p
-
-pub place-width-bound : (p : Place) → placeWidth p ≤ 3
-place-width-bound (Variable v) = omega arith
-place-width-bound (Cell a i) = omega arith
-
-pub operand-width-bound : (o : Operand) → operandWidth o ≤ 5
-operand-width-bound Nothing = omega arith
-operand-width-bound (Constant c) = omega arith
-operand-width-bound (Held p) = omega (arith, place-width-bound p)
-
-pub statement-width-bound : (s : Statement) → statementWidth s ≤ 14
-statement-width-bound s =
-    omega (arith, place-width-bound (s .destination), operand-width-bound (s .left), operand-width-bound (s .right))
+use Rattle.meaning.specs.Format.{placeBytes, operandBytes, statementWidth, recordBytes}
+use Rattle.meaning.proofs.Lengths.{statement-length}
 
 pub record-width : (s : Statement) → length (recordBytes s) ≡ 1 + statementWidth s
-record-width s =
-    simp (length-append)
-    (omega (arith, place-width (s .destination), operand-width (s .left), operand-width (s .right)))
+record-width s = omega (arith, statement-length s)
 
 pub record-length :
     (s : Statement)

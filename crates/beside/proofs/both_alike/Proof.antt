@@ -1,4 +1,4 @@
--- `both_alike` meets its contract: both statuses, then the ends.
+-- `beside::both_alike` meets its contract: both statuses, then the ends.
 use borrow.Author.Tests.{eq-eqb, ne-eqb}
 use borrow.Author.Needs.{needs}
 use Rattle.beside.proofs.both_alike.Statement.{statement}

@@ -1,4 +1,4 @@
--- `run_made` meets its contract: a list that was not made leaves what was lent, any other is run.
+-- `beside::run_made` meets its contract: a list that was not made leaves what was lent, any other is run.
 use mathlib.Core.Path.{sym, _∙_}
 use borrow.Author.Needs.{needs}
 use Rattle.beside.proofs.Running.{not-run, is-run}

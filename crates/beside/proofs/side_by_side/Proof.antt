@@ -1,4 +1,4 @@
--- `side_by_side` meets its contract: the answers of the three calls, put together.
+-- `beside::side_by_side` meets its contract: the answers of the three calls, put together.
 use mathlib.Core.Path.{sym}
 use native.Mathlib.Omega.{arith}
 use lib.Seq.{length-take-le}

@@ -1,11 +1,7 @@
--- begin: the two bytes are set one behind the other.
-use borrow.Author.Tests.{le-ltb, lt-ltb, le-leb, lt-leb, eq-eqb, ne-eqb}
+-- `encode::begin` meets its contract: the two bytes are set one behind the other.
 use borrow.Author.Needs.{needs}
 use Rattle.encode.proofs.begin.Statement.{statement}
 use Rattle.encode.proofs.begin.Tie as tie
-use Rattle.encode.proofs.begin.Reads as reads
-use Rattle.encode.proofs.begin.Lts as lts
-use Rattle.rows.proofs.set_byte.Reads as set-byte-reads
 
 set-byte-requires : tie.Need-set-byte-requires
 set-byte-requires c κs = search needs

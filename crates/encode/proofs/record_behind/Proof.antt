@@ -1,12 +1,7 @@
--- record_behind: the numbers go on by one record, wrapping.
-use borrow.Author.Tests.{le-ltb, lt-ltb, le-leb, lt-leb, eq-eqb, ne-eqb}
+-- `encode::record_behind` meets its contract: the numbers go on by one record, wrapping.
 use borrow.Author.Needs.{needs}
 use Rattle.encode.proofs.record_behind.Statement.{statement}
 use Rattle.encode.proofs.record_behind.Tie as tie
-use Rattle.encode.proofs.record_behind.Reads as reads
-use Rattle.encode.proofs.record_behind.Lts as lts
-use Rattle.std.proofs.num.wrapping_add_u16.Reads as wrapping-add-u16-reads
-use Rattle.std.proofs.num.wrapping_add_u64.Reads as wrapping-add-u64-reads
 
 add-wrapping-add-u16 : tie.Need-add-wrapping-add-u16
 add-wrapping-add-u16 c = search needs

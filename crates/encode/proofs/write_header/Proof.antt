@@ -1,12 +1,7 @@
--- write_header: the four bytes are set from the front.
-use borrow.Author.Tests.{le-ltb, lt-ltb, le-leb, lt-leb, eq-eqb, ne-eqb}
+-- `encode::write_header` meets its contract: the four bytes are set from the front.
 use borrow.Author.Needs.{needs}
 use Rattle.encode.proofs.write_header.Statement.{statement}
 use Rattle.encode.proofs.write_header.Tie as tie
-use Rattle.encode.proofs.write_header.Reads as reads
-use Rattle.encode.proofs.write_header.Lts as lts
-use Rattle.rows.proofs.low_byte.Reads as low-byte-reads
-use Rattle.rows.proofs.set_byte.Reads as set-byte-reads
 
 set-byte-requires : tie.Need-set-byte-requires
 set-byte-requires c κs = search needs

@@ -1,13 +1,8 @@
--- write_o: the bytes of the record are set one behind the other, with rb or without.
-use borrow.Author.Tests.{le-ltb, lt-ltb, le-leb, lt-leb, eq-eqb, ne-eqb}
+-- `encode::write_o` meets its contract: the bytes of the record are set one behind the other, with rb or without.
+use borrow.Author.Tests.{eq-eqb, ne-eqb}
 use borrow.Author.Needs.{needs}
 use Rattle.encode.proofs.write_o.Statement.{statement}
 use Rattle.encode.proofs.write_o.Tie as tie
-use Rattle.encode.proofs.write_o.Reads as reads
-use Rattle.encode.proofs.write_o.Lts as lts
-use Rattle.encode.proofs.begin.Reads as begin-reads
-use Rattle.encode.proofs.record_behind.Reads as record-behind-reads
-use Rattle.rows.proofs.set_byte.Reads as set-byte-reads
 
 cast-place : tie.Need-cast-place
 cast-place c = search needs

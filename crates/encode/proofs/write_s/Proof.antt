@@ -1,13 +1,7 @@
--- write_s: the bytes of the record are set one behind the other.
-use borrow.Author.Tests.{le-ltb, lt-ltb, le-leb, lt-leb, eq-eqb, ne-eqb}
+-- `encode::write_s` meets its contract: the bytes of the record are set one behind the other.
 use borrow.Author.Needs.{needs}
 use Rattle.encode.proofs.write_s.Statement.{statement}
 use Rattle.encode.proofs.write_s.Tie as tie
-use Rattle.encode.proofs.write_s.Reads as reads
-use Rattle.encode.proofs.write_s.Lts as lts
-use Rattle.encode.proofs.begin.Reads as begin-reads
-use Rattle.encode.proofs.record_behind.Reads as record-behind-reads
-use Rattle.rows.proofs.set_byte.Reads as set-byte-reads
 
 cast-place : tie.Need-cast-place
 cast-place c = search needs

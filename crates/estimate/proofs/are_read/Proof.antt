@@ -1,4 +1,4 @@
--- are_read: some admitted pair reads what a pair defines.
+-- `estimate::are_read` meets its contract: some admitted pair reads what a pair defines.
 use mathlib.Core.Path.{_≡_, sym, _∙_}
 use Prim.Native.Nat.{_^_, _<_}
 use mathlib.Core.Bool.{false}

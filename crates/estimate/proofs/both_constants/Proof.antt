@@ -1,4 +1,4 @@
--- both_constants: both are constants.
+-- `estimate::both_constants` meets its contract: both are constants.
 use borrow.Author.Needs.{needs}
 use Rattle.estimate.proofs.both_constants.Statement.{statement}
 use Rattle.estimate.proofs.both_constants.Tie as tie

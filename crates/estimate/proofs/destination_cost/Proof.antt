@@ -1,4 +1,4 @@
--- destination_cost: what the destination costs, at most 4.
+-- `estimate::destination_cost` meets its contract: what the destination costs, at most 4.
 use native.Mathlib.Omega.{arith}
 use borrow.Author.Needs.{needs}
 use Rattle.estimate.proofs.destination_cost.Statement.{statement}

@@ -1,4 +1,4 @@
--- gain: both prices.
+-- `estimate::gain` meets its contract: both prices.
 use native.Mathlib.Omega.{arith}
 use borrow.Author.Needs.{needs}
 use Rattle.estimate.proofs.gain.Statement.{statement}

@@ -1,4 +1,4 @@
--- loss: all that is taken from the gain.
+-- `estimate::loss` meets its contract: all that is taken from the gain.
 use native.Mathlib.Omega.{arith}
 use borrow.Author.Needs.{needs}
 use Rattle.estimate.specs.Costs.{lossOf}

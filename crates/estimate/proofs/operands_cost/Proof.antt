@@ -1,4 +1,4 @@
--- operands_cost: what a position of these operands costs, at most 4.
+-- `estimate::operands_cost` meets its contract: what a position of these operands costs, at most 4.
 use native.Mathlib.Omega.{arith}
 use borrow.Author.Needs.{needs}
 use Rattle.estimate.proofs.operands_cost.Statement.{statement}

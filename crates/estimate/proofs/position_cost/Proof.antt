@@ -1,4 +1,4 @@
--- position_cost: what a position costs, from its columns, at most 4.
+-- `estimate::position_cost` meets its contract: what a position costs, from its columns, at most 4.
 use native.Mathlib.Omega.{arith}
 use borrow.Author.Needs.{needs}
 use Rattle.estimate.proofs.position_cost.Statement.{statement}

@@ -1,4 +1,4 @@
--- reads_at: a pair reads at one position what another defines.
+-- `estimate::reads_at` meets its contract: a pair reads at one position what another defines.
 use borrow.Author.Tests.{eq-eqb, ne-eqb}
 use borrow.Author.Needs.{needs}
 use Rattle.estimate.proofs.reads_at.Statement.{statement}

@@ -1,4 +1,4 @@
--- reads_pair: the pair in which a statement is left reads what another pair defines.
+-- `estimate::reads_pair` meets its contract: the pair in which a statement is left reads what another pair defines.
 use borrow.Author.Tests.{eq-eqb, ne-eqb}
 use borrow.Author.Needs.{needs}
 use Rattle.estimate.proofs.reads_pair.Statement.{statement}

@@ -1,4 +1,4 @@
--- right_cost: what the right position costs, nothing for a copy.
+-- `estimate::right_cost` meets its contract: what the right position costs, nothing for a copy.
 use native.Mathlib.Omega.{arith}
 use borrow.Author.Tests.{le-ltb, lt-ltb}
 use borrow.Author.Needs.{needs}

@@ -1,4 +1,4 @@
--- admit_if_pays: a pair is admitted if it may be and pays.
+-- `extend::admit_if_pays` meets its contract: a pair is admitted if it may be and pays.
 use borrow.Author.Tests.{le-leb, lt-leb}
 use borrow.Author.Needs.{needs}
 use Rattle.extend.proofs.admit_if_pays.Statement.{statement}

@@ -1,4 +1,4 @@
--- best_readers: the best of all pairs of readers.
+-- `extend::best_readers` meets its contract: the best of all pairs of readers.
 use mathlib.Core.Path.{_≡_, refl, sym, _∙_}
 use mathlib.Core.List.{List, []}
 use Prim.Native.Nat.{ℕ, _^_, _≤_, _<_}

@@ -1,4 +1,4 @@
--- best_with: the best of all pairs of one reader with the partners.
+-- `extend::best_with` meets its contract: the best of all pairs of one reader with the partners.
 use mathlib.Core.Path.{_≡_, sym, _∙_}
 use mathlib.Core.List.{[]}
 use Prim.Native.Nat.{_^_, _≤_, _<_}

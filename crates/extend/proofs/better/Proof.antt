@@ -1,4 +1,4 @@
--- better: the better of the best so far and a pair that may be admitted and pays.
+-- `extend::better` meets its contract: the better of the best so far and a pair that may be admitted and pays.
 use borrow.Author.Tests.{le-leb, lt-leb}
 use borrow.Author.Needs.{needs}
 use Rattle.extend.proofs.better.Statement.{statement}

@@ -1,4 +1,4 @@
--- definition_to_use: the best readers are admitted.
+-- `extend::definition_to_use` meets its contract: the best readers are admitted.
 use mathlib.Core.Path.{_≡_, sym, _∙_}
 use mathlib.Core.List.{List, []}
 use Prim.Native.Nat.{ℕ}

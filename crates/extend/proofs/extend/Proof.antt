@@ -1,4 +1,4 @@
--- extend: a visit to each pair in order of admission, at most n of them.
+-- `extend::extend` meets its contract: a visit to each pair in order of admission, at most n of them.
 use mathlib.Core.Path.{_≡_, refl, sym, ap, ap₂, _∙_}
 use mathlib.Core.List.{List}
 use Prim.Native.Nat.{ℕ, suc, _+_, _-_, _*_, _≤_, _<_}

@@ -1,4 +1,4 @@
--- greater: the greater of the best so far and a new pair, and that its statements are in range.
+-- `extend::greater` meets its contract: the greater of the best so far and a new pair, and that its statements are in range.
 use borrow.Author.Tests.{le-ltb, lt-ltb, eq-eqb, ne-eqb}
 use borrow.Author.Needs.{needs}
 use Rattle.extend.proofs.greater.Statement.{statement}

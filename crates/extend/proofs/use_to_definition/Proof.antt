@@ -1,4 +1,4 @@
--- use_to_definition: the pair of definitions that a column has is admitted if it may be and pays.
+-- `extend::use_to_definition` meets its contract: the pair of definitions that a column has is admitted if it may be and pays.
 use mathlib.Core.Path.{_≡_, sym, ap₂, _∙_}
 use mathlib.Core.Bool.{Bool, _&&_}
 use mathlib.Core.List.{List}

@@ -1,4 +1,4 @@
--- visit: one visit: left position, right position, readers.
+-- `extend::visit` meets its contract: one visit: left position, right position, readers.
 use mathlib.Core.Path.{ap, _∙_}
 use Rattle.meaning.specs.Pairs.{pair}
 use Rattle.extend.specs.Visits.{admitDefinitions, admitReaders, visitTables}

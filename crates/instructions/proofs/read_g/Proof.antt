@@ -1,7 +1,7 @@
 -- `instructions::read_g` meets its contract: each operand is read behind the one before it.
 use mathlib.Core.Path.{sym, _∙_}
 use native.Mathlib.Omega.{arith}
-use Rattle.reader.proofs.Operands.{operand-small}
+use Rattle.meaning.proofs.Bounds.{operand-width}
 use Rattle.instructions.proofs.Gathers.{two-lanes, four-lanes, no-lanes}
 use borrow.Author.Needs.{needs}
 use Rattle.instructions.proofs.read_g.Statement.{statement}
@@ -17,7 +17,7 @@ operand-width-requires : tie.Need-operand-width-requires
 operand-width-requires c κs = search needs
 
 add-second : tie.Need-add-second
-add-second c = record { fits = omega (arith, c .operand-width .ensures, operand-small (c .before .operand-at .result)) }
+add-second c = record { fits = omega (arith, c .operand-width .ensures, operand-width (c .before .operand-at .result)) }
 
 operand-at-requires-2 : tie.Need-operand-at-requires-2
 operand-at-requires-2 c κs = search needs
@@ -37,7 +37,7 @@ operand-width-requires-2 : tie.Need-operand-width-requires-2
 operand-width-requires-2 c κs = search needs
 
 add-third : tie.Need-add-third
-add-third c = record { fits = omega (arith, c .operand-width2 .ensures, c .before .before .before .before .operand-width .ensures, operand-small (c .before .before .before .before .before .operand-at .result), operand-small (c .before .before .before .operand-at2 .result)) }
+add-third c = record { fits = omega (arith, c .operand-width2 .ensures, c .before .before .before .before .operand-width .ensures, operand-width (c .before .before .before .before .before .operand-at .result), operand-width (c .before .before .before .operand-at2 .result)) }
 
 operand-at-requires-3 : tie.Need-operand-at-requires-3
 operand-at-requires-3 c κs = search needs
@@ -54,9 +54,9 @@ add-operand-at c =
             c .operand-width3 .ensures,
             c .before .before .operand-width2 .ensures,
             c .before .before .before .before .before .before .operand-width .ensures,
-            operand-small (c .before .before .before .before .before .before .before .operand-at .result),
-            operand-small (c .before .before .before .before .before .operand-at2 .result),
-            operand-small (c .before .operand-at3 .result),
+            operand-width (c .before .before .before .before .before .before .before .operand-at .result),
+            operand-width (c .before .before .before .before .before .operand-at2 .result),
+            operand-width (c .before .operand-at3 .result),
           );
     }
 

@@ -1,7 +1,7 @@
 -- `reader::read_behind` meets its contract: the statement that is put together is the one that the bytes say, and it is tested as they say.
 use Rattle.reader.proofs.Records.{put-together, is-whole, wrong-width, ill-formed}
 use mathlib.Core.Path.{sym, _∙_}
-use Rattle.reader.proofs.Operands.{place-small, operand-small}
+use Rattle.meaning.proofs.Bounds.{place-width, operand-width}
 use native.Mathlib.Omega.{arith}
 use borrow.Author.Needs.{needs}
 use Rattle.reader.proofs.read_behind.Statement.{statement}
@@ -11,7 +11,7 @@ place-width-requires : tie.Need-place-width-requires
 place-width-requires c κs = search needs
 
 add-behind : tie.Need-add-behind
-add-behind c = omega (arith, c .place-width .ensures, place-small (c .before .before .args .destination))
+add-behind c = omega (arith, c .place-width .ensures, place-width (c .before .before .args .destination))
 
 operand-at-requires : tie.Need-operand-at-requires
 operand-at-requires c κs = search needs
@@ -22,8 +22,7 @@ operand-width-requires c κs = search needs
 add-right-at : tie.Need-add-right-at
 add-right-at c =
     let a = c .before .before .before .before .args in
-    let place-width = c .before .before .place-width in
-    omega (arith, place-width .ensures, place-small (a .destination), c .operand-width .ensures, operand-small (c .before .operand-at .result))
+    omega (arith, c .before .before .place-width .ensures, place-width (a .destination), c .operand-width .ensures, operand-width (c .before .operand-at .result))
 
 right-at-requires : tie.Need-right-at-requires
 right-at-requires c κs = search needs

@@ -5,7 +5,7 @@ use Prim.Native.Nat.{ℕ, min}
 use native.Mathlib.Omega.{arith}
 use lib.ListN.{length, take, length-take}
 use Rattle.basics.proofs.Mapped.{unmapped}
-use Rattle.run_block.proofs.Sized.{within-slots}
+use Rattle.basics.proofs.Lists.{take-least}
 use Rattle.run_block.proofs.run_read.Statement.{statement}
 use Rattle.run_block.proofs.run_read.Tie as tie
 
@@ -29,7 +29,7 @@ run-sized-requires c κs =
     let start = c .before .before .before .before .before .before .before in
     let slots : length (start .args .block .lengths) ≡ 8 = search (needs, unmapped) in
     let arrays : c .before .before .before .at-most .result ≡ min (start .args .block .arrays) (length (start .args .block .lengths)) = omega arith in
-    ap (λ (n : ℕ). take n (start .args .block .lengths)) arrays ∙ within-slots (start .args .block .lengths) (start .args .block .arrays)
+    ap (λ (n : ℕ). take n (start .args .block .lengths)) arrays ∙ take-least (start .args .block .arrays) (start .args .block .lengths)
 
 same-length : tie.Need-same-length
 same-length c = search needs

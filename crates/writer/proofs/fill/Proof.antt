@@ -1,4 +1,4 @@
--- `fill` meets its contract: 7 where the room is too small, else what `write_bytes` leaves in it.
+-- `writer::fill` meets its contract: 7 where the room is too small, else what `write_bytes` leaves in it.
 use native.Mathlib.Omega.{arith}
 use Rattle.meaning.specs.Block.{declared}
 use Rattle.meaning.specs.Format.{blockBytes}

@@ -1,4 +1,4 @@
--- `refusal` meets its contract: the four tests in their order.
+-- `writer::refusal` meets its contract: the four tests in their order.
 use mathlib.Core.Path.{sym, _∙_}
 use Rattle.writer.specs.Refusal.{refusalOf}
 use Rattle.writer.proofs.Refused.{limits}

@@ -1,4 +1,4 @@
--- `write_block` meets its contract: the refusal's number, or what `fill` does with a block that is not refused.
+-- `writer::write_block` meets its contract: the refusal's number, or what `fill` does with a block that is not refused.
 use mathlib.Core.Path.{_≡_, sym, ap, _∙_}
 use Rattle.meaning.specs.Calls.{blockWritten, writeBlockCall}
 use Rattle.writer.specs.Refusal.{refusalOf}

@@ -4,9 +4,9 @@ use Prim.Native.Nat.{ℕ}
 use native.Mathlib.Omega.{arith}
 use lib.ListN.{take}
 use lib.Seq.{length-take-le}
-use Rattle.beside.specs.Same.{sameNumbers}
-use Rattle.beside.proofs.Comparison.{take-least}
 use borrow.Author.Needs.{needs}
+use Rattle.basics.proofs.Lists.{take-least}
+use Rattle.beside.specs.Same.{sameNumbers}
 use Rattle.beside.proofs.same.same_front.Statement.{statement}
 use Rattle.beside.proofs.same.same_front.Tie as tie
 

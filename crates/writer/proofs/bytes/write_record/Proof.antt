@@ -2,8 +2,9 @@
 use mathlib.Core.Path.{_≡_, _∙_}
 use native.Mathlib.Omega.{arith}
 use lib.ListN.{length, length-set}
-use Rattle.writer.proofs.Widths.{statement-width-bound, record-length, record-end, record-stored}
 use borrow.Author.Needs.{needs}
+use Rattle.meaning.proofs.Bounds.{statement-width}
+use Rattle.writer.proofs.Widths.{record-length, record-end, record-stored}
 use Rattle.writer.proofs.bytes.write_record.Statement.{statement}
 use Rattle.writer.proofs.bytes.write_record.Tie as tie
 
@@ -11,7 +12,7 @@ statement-width-requires : tie.Need-statement-width-requires
 statement-width-requires c κs = search needs
 
 cast-room : tie.Need-cast-room
-cast-room c = omega (arith, statement-width-bound (c .before .before .args .statement))
+cast-room c = omega (arith, statement-width (c .before .before .args .statement))
 
 slice-write-room : tie.Need-slice-write-room
 slice-write-room c = search needs

@@ -7,7 +7,8 @@ use lib.ListN.{length, getD}
 use Rattle.basics.proofs.Mapped.{unmapped}
 use Rattle.meaning.specs.Block.{blank}
 use Rattle.meaning.specs.Format.{recordBytes}
-use Rattle.writer.proofs.Widths.{statement-width-bound, record-width}
+use Rattle.meaning.proofs.Bounds.{statement-width}
+use Rattle.writer.proofs.Widths.{record-width}
 use Rattle.writer.proofs.Run.{rest, rest-all, length-next, length-none}
 use Rattle.writer.proofs.Whole.{block-size}
 use Rattle.writer.proofs.sizes.block_size.Statement.{statement}
@@ -59,7 +60,7 @@ statement-width-requires c κs = search needs
 add-size-3 : tie.Need-add-size-3 Inv-loop μ-loop
 add-size-3 c =
     let b = c .before .before .before .before .args .t1 in
-    omega (arith, statement-width-bound (getD (b .statements) (c .before .before .before .loop .i) blank))
+    omega (arith, statement-width (getD (b .statements) (c .before .before .before .loop .i) blank))
 
 add-i : tie.Need-add-i Inv-loop μ-loop
 add-i c = omega arith
@@ -76,7 +77,7 @@ loop-again c =
       omega arith,
       omega arith,
       omega arith,
-      omega (arith, statement-width-bound s),
+      omega (arith, statement-width s),
       omega (arith, record-width s, less),
     )
 
