@@ -20,7 +20,7 @@ use Rattle.theorems.specs.Units.{Every, Units}
 use Rattle.theorems.proofs.Occurs.{every-weaker}
 use Rattle.theorems.proofs.Pairs.{Admitted}
 use Rattle.theorems.proofs.Combination.{combined-units}
-use Rattle.theorems.proofs.Schedule.{fits-filled, no-more-than-block}
+use Rattle.theorems.proofs.Units.{fits-filled, units-size}
 use Rattle.text.proofs.Spelling.{length-decimal}
 use Rattle.account_units.specs.Lines.{numberText, numbersText, numbersLine, eachFrom, orNone, section}
 use Rattle.account_units.specs.Sections.{unitLines, pairLines, chainLines, packLines, sameUnit, dissolvedLines, pairSection, chainSection, packSection, scheduleSection, dissolvedSection, pairsHeading, chainsHeading, packsHeading, scheduleHeading, dissolvedHeading}
@@ -208,7 +208,7 @@ pair-section-length pairs =
 module _ (ss : List Statement) where
   all-units : (units : List (List ℕ)) → Units ss units → length (unitLines units) ≤ 23 * length ss
   all-units units known =
-      omega (arith, units-length units (every-weaker (fits-filled ss) units (known .fit)), no-more-than-block ss units known)
+      omega (arith, units-length units (every-weaker (fits-filled ss) units (known .fit)), units-size ss units known)
 
   pub chain-section-length : (pairs : List Pair) → Admitted ss pairs → length (chainSection (length ss) pairs) ≤ 15 + 23 * length ss
   chain-section-length pairs known =
@@ -216,7 +216,7 @@ module _ (ss : List Statement) where
         arith,
         section-length chainsHeading (chainLines (length ss) pairs),
         chains-length ss pairs,
-        no-more-than-block ss (combine ss pairs) (combined-units ss pairs known),
+        units-size ss (combine ss pairs) (combined-units ss pairs known),
       )
 
   pub pack-section-length : (units : List (List ℕ)) → Units ss units → length (packSection units) ≤ 14 + 23 * length ss
