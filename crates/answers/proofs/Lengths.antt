@@ -8,11 +8,11 @@ use borrow.Author.Tests.{leb-true}
 use lib.Dec.{eqb, ltb}
 use lib.ListN.{length, take, length-append, length-take}
 use Rattle.basics.specs.Choice.{pick}
-use Rattle.text.specs.Text.{decimal, field, hex}
+use Rattle.text.specs.Text.{words, decimal, field, hex}
 use Rattle.text.proofs.Spelling.{length-decimal, length-hex}
 use Rattle.meaning.specs.Calls.{ListMade}
 use Rattle.answers.specs.Lines.{space, lineFeed, firstLine, secondLine, listLines}
-use Rattle.answers.specs.Sentences.{otherVersion, otherLength, overLimit, brokenRecord, notDeclared, noRoom, sentence, tooManyBytes, usage, complaint}
+use Rattle.answers.specs.Sentences.{otherVersion, otherLength, overLimit, brokenRecord, notDeclared, noRoom, sentence, refusal, tooManyBytes, usage, complaint}
 
 pub length-field : (n end : ℕ) → length (field n end) ≤ 21
 length-field n end =
@@ -64,6 +64,22 @@ length-sentence number =
     let two = either-short (eqb number 3) overLimit _ 170 (leb-true (length overLimit) 170 refl) three in
     let one = either-short (eqb number 2) otherLength _ 170 (leb-true (length otherLength) 170 refl) two in
     either-short (eqb number 1) otherVersion _ 170 (leb-true (length otherVersion) 170 refl) one
+
+pub length-refusal : (number : ℕ) → length (refusal number) ≤ 300
+unfolding refusal
+length-refusal number =
+    let said = words "refused with " in
+    let colon = words ": " in
+    let listed = words "The numbers are listed in docs/PROMISES.md under \"Numbers returned\".\n" in
+    omega (
+      arith,
+      length-append (said ++ decimal number ++ colon ++ sentence number) listed,
+      length-append (said ++ decimal number ++ colon) (sentence number),
+      length-append (said ++ decimal number) colon,
+      length-append said (decimal number),
+      length-decimal number,
+      length-sentence number,
+    )
 
 pub length-complaint : (number given : ℕ) → length (complaint number given) ≤ 300
 unfolding complaint

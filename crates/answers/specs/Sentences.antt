@@ -4,7 +4,7 @@ use Prim.Native.Nat.{ℕ}
 use mathlib.Core.List.{List, [], _++_}
 use lib.Dec.{eqb, ltb}
 use Rattle.basics.specs.Choice.{pick}
-use Rattle.text.specs.Text.{words}
+use Rattle.text.specs.Text.{words, decimal}
 
 abbrev pub otherVersion : List ℕ
 otherVersion = words "The first byte of the block, its version, is not 1.\n"
@@ -33,6 +33,12 @@ sentence number =
     (pick (eqb number 4) brokenRecord
     (pick (eqb number 5) notDeclared
     (pick (eqb number 7) noRoom [])))))
+
+-- a refusal, for people: the number, what is wrong, and where the numbers are listed
+unfoldable pub refusal : ℕ → List ℕ
+refusal number =
+    words "refused with " ++ decimal number ++ words ": " ++ sentence number
+    ++ words "The numbers are listed in docs/PROMISES.md under \"Numbers returned\".\n"
 
 abbrev pub tooManyBytes : List ℕ
 tooManyBytes = words "The input has over 4096 bytes, which no block has.\n"

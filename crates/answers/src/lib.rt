@@ -6,3 +6,5 @@ mod sentences;
 
 pub use lines::put_lines;
 pub use sentences::put_complaint;
+pub use sentences::put_refusal;
+pub use sentences::put_sentence;

@@ -1,8 +1,9 @@
 // The lines of standard output, from the numbers that making a list returned and the room that it was
 // lent.
 
+ghost use mathlib.Core.Path.{_≡_};
 ghost use Prim.Native.Nat.{_≤_};
-ghost use lib.ListN.{length};
+ghost use lib.ListN.{length, take};
 ghost use Rattle.text.specs.Puts.{Puts};
 ghost use Rattle.answers.specs.Lines.{firstLine, secondLine, listLines};
 
@@ -18,7 +19,6 @@ fn put_first(out: &mut [u8], status: u8, size: usize, block: u64, list: u64) -> 
 
 // "the list in lower-case hex": the first `size` bytes of the room, or all if it has fewer
 fn put_second(out: &mut [u8], at: usize, size: usize, room: &[u8]) -> usize
-    requires { ⌜ (at ≤ 84) × (length (now room) ≤ 4096) ⌝ }
     ensures { λ r. ⌜ Puts (secondLine size (now (room .entry))) (now (out .entry)) at (now (out .exit)) r ⌝ }
 {
     if size <= room.len() {
@@ -29,7 +29,7 @@ fn put_second(out: &mut [u8], at: usize, size: usize, room: &[u8]) -> usize
     text::put(out, behind_room, b'\n')
 }
 
-// All of it, and its length: 84 bytes for the first line and 8,193 for the second are enough.
+// All of it, and its length: 84 bytes for the first line and 8,193 for the second are enough, so all of it is there.
 pub fn put_lines(
     out: &mut [u8],
     status: u8,
@@ -40,6 +40,7 @@ pub fn put_lines(
 ) -> usize
     requires { ⌜ (8277 ≤ length (now out)) × (length (now room) ≤ 4096) ⌝ }
     ensures { λ r. ⌜ Puts (listLines (record { status = status; size = size; blockCost = block; listCost = list; room = now (room .entry) })) (now (out .entry)) 0 (now (out .exit)) r ⌝ }
+    ensures { λ r. ⌜ take r (now (out .exit)) ≡ listLines (record { status = status; size = size; blockCost = block; listCost = list; room = now (room .entry) }) ⌝ }
     ensures { λ r. ⌜ r ≤ length (now (out .exit)) ⌝ }
 {
     let behind = put_first(out, status, size, block, list);

@@ -7,8 +7,7 @@ use libc::STDOUT_FILENO;
 use maker::Made;
 ghost use mathlib.Core.Path.{_≡_};
 ghost use Prim.Native.Nat.{_≤_};
-ghost use lib.ListN.{length};
-ghost use Rattle.text.specs.Puts.{Puts};
+ghost use lib.ListN.{length, take};
 ghost use Rattle.answers.specs.Lines.{madeOf, printed};
 
 // The status, and how many bytes of text there are.
@@ -35,7 +34,7 @@ fn make(input: &[u8], room: &mut [u8]) -> Made
 // All that standard output is given.
 fn print(input: &[u8], room: &mut [u8], out: &mut [u8]) -> Printed
     requires { ⌜ (length (now room) ≤ 4096) × (8277 ≤ length (now out)) ⌝ }
-    ensures { λ r. ⌜ Puts (printed (now (input .entry)) (now (room .entry))) (now (out .entry)) 0 (now (out .exit)) (r .size) ⌝ }
+    ensures { λ r. ⌜ take (r .size) (now (out .exit)) ≡ printed (now (input .entry)) (now (room .entry)) ⌝ }
     ensures { λ r. ⌜ r .size ≤ length (now (out .exit)) ⌝ }
     ensures { λ r. ⌜ r .status ≡ madeOf (now (input .entry)) (now (room .entry)) .status ⌝ }
 {

@@ -7,7 +7,7 @@ use Rattle.meaning.specs.declared.Place.the-variants.{Variable, Cell}
 use Rattle.meaning.specs.declared.Operand.{Operand}
 use Rattle.meaning.specs.declared.Operand.the-variants.{Nothing, Constant, Held}
 use Rattle.meaning.specs.declared.Statement.{Statement}
-use Rattle.text.specs.Text.{words, decimal, field}
+use Rattle.text.specs.Text.{words, decimal}
 
 abbrev pub variableText : ℕ → List ℕ
 variableText v = words "V" ++ decimal v

@@ -49,7 +49,7 @@ array-share-prefix-out-2 c = search needs
 slice-aggregate-write-all-2 : tie.Need-slice-aggregate-write-all-2
 slice-aggregate-write-all-2 c =
     let call = c .before .before .put-complaint in
-    omega (arith, length-take (call .result) (call .last .0), call .ensures .1)
+    omega (arith, length-take (call .result) (call .last .0), call .ensures .1 .1)
 
 write-all-requires-2 : tie.Need-write-all-requires-2
 write-all-requires-2 c κs = search needs

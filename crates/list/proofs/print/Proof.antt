@@ -1,7 +1,6 @@
 -- `print` meets its contract: the lines are those of what was made.
-use mathlib.Core.Path.{ap}
+use mathlib.Core.Path.{ap, _∙_}
 use Rattle.meaning.specs.Calls.{ListMade}
-use Rattle.text.proofs.Putting.{reads-as}
 use Rattle.answers.specs.Lines.{listLines}
 use borrow.Author.Needs.{needs}
 use Rattle.list.proofs.print.Statement.{statement}
@@ -23,7 +22,7 @@ returns : tie.Need-returns
 returns c =
     let made = c .before .before .before .before .before .before .before .make .ensures in
     let lines = c .before .before .put-lines .ensures in
-    (reads-as (lines .0) (ap listLines made), (lines .1, ap (λ (m : ListMade). m .status) made))
+    (lines .1 .0 ∙ ap listLines made, (lines .1 .1, ap (λ (m : ListMade). m .status) made))
 
 pub print-spec : {M : Type 1} → statement M
 print-spec =

@@ -4,11 +4,10 @@ use mathlib.Core.Path.{sym, ap}
 use mathlib.Core.List.{List, [], _∷_, _++_}
 use Prim.Native.Nat.{ℕ}
 use native.Mathlib.Omega.{arith}
-use lib.ListN.{take, length-take}
+use lib.ListN.{length-take}
 use lib.Seq.{take-all}
 use Rattle.text.specs.Text.{hex}
 use Rattle.text.proofs.Putting.{reads-as, both}
-use Rattle.text.proofs.Spelling.{length-hex}
 use Rattle.answers.specs.Lines.{lineFeed}
 use borrow.Author.Needs.{needs}
 use Rattle.answers.proofs.lines.put_second.Statement.{statement}
@@ -18,16 +17,10 @@ slice-aggregate-put-hex : tie.Need-slice-aggregate-put-hex
 slice-aggregate-put-hex c = omega (arith, length-take (c .before .before .before .before .before .args .size) (c .before .before .before .before .before .args .room .now))
 
 put-hex-requires : tie.Need-put-hex-requires
-put-hex-requires c κs =
-    let first = c .before .before .before .before .before in
-    (omega (arith, first .pre .0), omega (arith, first .pre .1, length-take (first .args .size) (first .args .room .now)))
+put-hex-requires c κs = search needs
 
 put-requires : tie.Need-put-requires
-put-requires c κs =
-    let first = c .before .before .before .before .before .before .before .before .before in
-    let part : List ℕ = take (first .args .size) (first .args .room .now) in
-    let short = length-take (first .args .size) (first .args .room .now) in
-    omega (arith, first .pre .0, first .pre .1, c .before .before .before .put-hex .ensures .moved, length-hex part, short)
+put-requires c κs = search needs
 
 same-length : tie.Need-same-length
 same-length c = search needs
@@ -39,9 +32,7 @@ put-hex-requires-2 : tie.Need-put-hex-requires-2
 put-hex-requires-2 c κs = search needs
 
 put-requires-2 : tie.Need-put-requires-2
-put-requires-2 c κs =
-    let first = c .before .before .before .before .before .before .before .before in
-    omega (arith, first .pre .0, first .pre .1, c .before .before .before .put-hex2 .ensures .moved, length-hex (first .args .room .now))
+put-requires-2 c κs = search needs
 
 same-length-2 : tie.Need-same-length-2
 same-length-2 c = search needs

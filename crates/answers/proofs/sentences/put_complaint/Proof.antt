@@ -1,7 +1,7 @@
 -- `sentences::put_complaint` meets its contract: the sentence, with the usage behind it where nothing was given, and both fit.
 use native.Mathlib.Omega.{arith}
-use Rattle.text.proofs.Putting.{reads-as, both, within}
-use Rattle.answers.proofs.Lengths.{length-sentence, length-complaint}
+use Rattle.text.proofs.Putting.{reads-as, both, within, front}
+use Rattle.answers.proofs.Lengths.{length-complaint}
 use Rattle.answers.proofs.Chosen.{too-long, with-usage, sentence-alone}
 use borrow.Author.Needs.{needs}
 use Rattle.answers.proofs.sentences.put_complaint.Statement.{statement}
@@ -21,7 +21,7 @@ returns c =
     let first = c .before .before .before .before .before .before .before in
     let a = first .args in
     let all = reads-as (c .before .before .put-words .ensures) (too-long (a .number) (a .given) (c .before .before .before .before .before .if1 .taken)) in
-    (all, within 300 all (length-complaint (a .number) (a .given)) (first .pre))
+    (all, (front all (omega (arith, length-complaint (a .number) (a .given), first .pre)), within all (omega arith)))
 
 put-sentence-requires : tie.Need-put-sentence-requires
 put-sentence-requires c κs = search needs
@@ -30,9 +30,7 @@ slice-aggregate-put-words-2 : tie.Need-slice-aggregate-put-words-2
 slice-aggregate-put-words-2 c = search needs
 
 put-words-requires-2 : tie.Need-put-words-requires-2
-put-words-requires-2 c κs =
-    let first = c .before .before .before .before .before .before .before .before .before in
-    (omega (arith, c .before .before .before .before .before .put-sentence .ensures .moved, length-sentence (first .args .number)), search needs)
+put-words-requires-2 c κs = search needs
 
 same-length-2 : tie.Need-same-length-2
 same-length-2 c = search needs
@@ -43,7 +41,7 @@ returns-2 c =
     let a = first .args in
     let said = with-usage (a .number) (a .given) (c .before .before .before .before .before .before .before .before .before .before .if1 .left) (c .before .before .before .before .before .if2 .taken) in
     let all = reads-as (both (c .before .before .before .before .before .before .before .before .put-sentence .ensures) (c .before .before .put-words2 .ensures)) said in
-    (all, within 300 all (length-complaint (a .number) (a .given)) (first .pre))
+    (all, (front all (omega (arith, length-complaint (a .number) (a .given), first .pre)), within all (omega arith)))
 
 same-length-3 : tie.Need-same-length-3
 same-length-3 c = search needs
@@ -53,7 +51,7 @@ returns-3 c =
     let first = c .before .before .before .before .before .before .before in
     let a = first .args in
     let all = reads-as (c .before .before .before .put-sentence .ensures) (sentence-alone (a .number) (a .given) (c .before .before .before .before .before .if1 .left) (c .if2 .left)) in
-    (all, within 300 all (length-complaint (a .number) (a .given)) (first .pre))
+    (all, (front all (omega (arith, length-complaint (a .number) (a .given), first .pre)), within all (omega arith)))
 
 pub put-complaint-spec : {M : Type 1} → statement M
 put-complaint-spec =

@@ -88,7 +88,7 @@ returns-6 c = reads-as (c .before .before .put-words6 .ensures) (ap sentence (sy
 returns-7 : tie.Need-returns-7
 returns-7 c =
     let a = c .before .before .before .before .before .before .before .args in
-    reads-as (nothing (a .out .now) 0)
+    reads-as (nothing (a .out .now) (a .at))
     (no-sentence (a .number) (c .before .before .before .before .before .if1 .left) (c .before .before .before .before .if2 .left) (c .before .before .before .if3 .left) (c .before .before .if4 .left) (c .before .if5 .left) (c .if6 .left))
 
 pub put-sentence-spec : {M : Type 1} → statement M
