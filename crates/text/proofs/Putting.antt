@@ -52,7 +52,7 @@ pub nothing : (before : List ℕ) (at : ℕ) → Puts [] before at before at
 nothing before at = record { stored = refl; moved = sym (behind-none (length before) at) }
 
 -- past the end nothing is stored
-sets-past : (l : List ℕ) (at : ℕ) (text : List ℕ) → length l ≤ at → sets l at text ≡ l
+pub sets-past : (l : List ℕ) (at : ℕ) (text : List ℕ) → length l ≤ at → sets l at text ≡ l
 sets-past l at [] past = refl
 sets-past l at (byte ∷ text) past =
     ap (λ (m : List ℕ). sets m (suc at) text) (set-out l at byte past) ∙ sets-past l (suc at) text (omega arith)
