@@ -20,5 +20,12 @@ fn lines_are_as_the_readme_has_them() {
         assert_eq!(text::list_lines(&block), lines, "{name}");
         count += 1;
     }
-    assert_eq!(count + 1, std::fs::read_dir(SAMPLES).expect("the folder").count());
+    let blocks = std::fs::read_dir(SAMPLES)
+        .expect("the folder")
+        .filter(|entry| {
+            let path = entry.as_ref().expect("an entry").path();
+            path.extension().is_some_and(|extension| extension == "bin")
+        })
+        .count();
+    assert_eq!(count, blocks);
 }

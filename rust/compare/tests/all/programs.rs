@@ -1,5 +1,6 @@
-//! The proved list program beside the second program: the sample blocks, input that is empty, and
-//! input around 4,096 bytes. What is refused also has its sentence on standard error.
+//! The proved programs. The list program beside the second program: the sample blocks, input that is
+//! empty, and input around 4,096 bytes; what is refused also has its sentence on standard error. And
+//! `compare`: the samples with their stored text, and input around the most bytes.
 
 use compare::programs;
 use second::text;
@@ -68,4 +69,52 @@ fn refused() {
     expect(&[1, 0, 7, 33, 0, 0, 0], OVER_LIMIT);
     expect(&[1, 0, 8, 0, 0, 0, 0, 0], BROKEN_RECORD);
     expect(&[1, 0, 13, 1, 1, 0, 1, 5, 0, 1, 0, 1, 1], NOT_DECLARED);
+}
+
+/// What `compare` prints; it has nothing to say on standard error.
+fn compared(input: &[u8]) -> String {
+    let output = programs::run(&programs::built("compare"), input);
+    assert_eq!(String::from_utf8_lossy(&output.stderr), "");
+    assert_eq!(output.status.code(), Some(0));
+    String::from_utf8(output.stdout).expect("plain text")
+}
+
+#[test]
+fn samples_side_by_side() {
+    let mut count = 0;
+    for entry in std::fs::read_dir(root().join("samples/compare")).expect("the folder") {
+        let path = entry.expect("an entry").path();
+        if path.extension().is_some_and(|extension| extension == "bin") {
+            let text = std::fs::read_to_string(path.with_extension("txt")).expect("its text");
+            assert_eq!(compared(&std::fs::read(&path).expect("a file")), text, "{path:?}");
+            count += 1;
+        }
+    }
+    assert_eq!(count, 13);
+}
+
+/// 32 live-out variables and 8 arrays of 256 cells, each as large as a number can be: the longest lines.
+#[test]
+fn most_lines_side_by_side() {
+    let mut input = vec![1, 0, 23, 32, 32, 8, 0];
+    input.extend([1, 0].repeat(8));
+    input.extend([255; 4 * (32 + 2048)]);
+    let text = compared(&input);
+    let lines: Vec<&str> = text.lines().collect();
+    assert_eq!(lines.len(), 2 + 1 + 2048 + 32 + 1);
+    assert_eq!(lines[3], "A0[0]    4294967295  4294967295  4294967295");
+    assert_eq!(lines[2050], "A7[255]  4294967295  4294967295  4294967295");
+    assert_eq!(lines[2082], "V31      4294967295  4294967295  4294967295");
+    assert_eq!(lines[2083], "Every cell and every live-out variable ends alike.");
+    assert!(!text.contains('*'));
+}
+
+#[test]
+fn around_the_most_bytes_side_by_side() {
+    let listed = "The numbers are listed in docs/PROMISES.md under \"Numbers returned\".\n";
+    let too_long =
+        "refused with 6: The input has over 9303 bytes, which no block has with its variables and cells.\n";
+    assert_eq!(compared(&[9; 9303]), format!("refused with 1: {OTHER_VERSION}{listed}"));
+    assert_eq!(compared(&[9; 9304]), format!("{too_long}{listed}"));
+    assert_eq!(compared(&[1; 1_000_000]), format!("{too_long}{listed}"));
 }
