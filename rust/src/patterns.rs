@@ -188,7 +188,6 @@ impl<'a> Draft<'a> {
             let left = self.lane_operands(lanes, &earlier, style);
             let right = self.lane_operands(lanes, &earlier, style);
             let to = self.lane_destinations(lanes, style);
-            let right = if copy { vec![Operand::Nothing; lanes] } else { right };
             let mut step = lane_by_lane(operation, &to, &left, &right);
             if !copy && self.random.percent(style.crossed) {
                 self.cross(&mut step);
@@ -381,17 +380,7 @@ impl<'a> Draft<'a> {
             3 => [row[0], row[1]],
             _ => lanes.variables(),
         };
-        (0..2)
-            .map(|lane| match operation {
-                COPY => copy(to[lane], left[lane]),
-                _ => Statement {
-                    operation,
-                    destination: to[lane],
-                    left: left[lane],
-                    right: right[lane],
-                },
-            })
-            .collect()
+        lane_by_lane(operation, &to, &left, &right)
     }
 
     /// Operands for two lanes: constants, or variables that were defined, most of them lately and
@@ -484,7 +473,7 @@ fn held(places: &[Place]) -> Vec<Operand> {
     places.iter().map(|&place| Operand::Held(place)).collect()
 }
 
-/// One operation, a statement for each lane.
+/// One operation, a statement for each lane. A copy has no right operand.
 fn lane_by_lane(
     operation: u8,
     to: &[Place],
@@ -492,11 +481,11 @@ fn lane_by_lane(
     right: &[Operand],
 ) -> Vec<Statement> {
     (0..to.len())
-        .map(|lane| Statement {
-            operation,
-            destination: to[lane],
-            left: left[lane],
-            right: right[lane],
+        .map(|lane| match operation {
+            COPY => copy(to[lane], left[lane]),
+            _ => {
+                Statement { operation, destination: to[lane], left: left[lane], right: right[lane] }
+            }
         })
         .collect()
 }

@@ -4,3 +4,5 @@ pub mod Listing
 pub mod OfPairs
 pub mod OfUnits
 pub mod Printed
+pub mod Lengths
+pub mod OfBlock

@@ -1,9 +1,11 @@
 -- The laws of counting: one step of what remains, its end, and what holds at the end because it holds at each step.
 use mathlib.Core.Path.{_≡_, refl, ap, _∙_, subst}
+use mathlib.Core.Logic.{_⊎_, inl, inr}
 use Prim.Native.Nat.{ℕ, zero, suc, _+_, _-_, _≤_, _<_}
 use native.Mathlib.Nat.{add-zero, zero-add}
 use native.Mathlib.Omega.{arith}
 use Rattle.basics.specs.Counting.{count}
+use Rattle.basics.proofs.Tests.{below-or-not}
 
 -- what remains of n at i, while i is below n, and when it is not
 pub more : (n i : ℕ) → i < n → n - i ≡ suc (n - (i + 1))
@@ -15,6 +17,16 @@ none-left n i h = omega arith
 -- at least k and not k is at least k + 1
 pub above : {n k : ℕ} → k ≤ n → (n ≡ k → ⊥) → suc k ≤ n
 above h differ = omega arith
+
+-- what holds of each number below k, and of k, holds of each below k + 1
+pub one-further {κ} : (P : ℕ → Type κ) (k : ℕ) → ((s : ℕ) → s < k → P s) → P k → (s : ℕ) → s < k + 1 → P s
+one-further P k earlier own s below = by (below-or-not s k)
+  where
+    by : (s < k) ⊎ (k ≤ s) → P s
+    by (inl low) = earlier s low
+    by (inr high) =
+        let this : k ≡ s = omega arith in
+        subst P this own
 
 -- what holds before the first number, and from each number to the next, holds behind the last
 pub count-holds {ℓ κ} :

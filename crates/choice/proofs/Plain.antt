@@ -1,10 +1,9 @@
 -- "S for every statement in block order": the bytes that are written are those of the plain list.
 use mathlib.Core.Path.{_≡_, refl, sym, ap, subst, _∙_}
-use Prim.Native.Nat.{ℕ, zero, suc, _+_, _*_, _≤_, _<_, _/_, _%_}
+use Prim.Native.Nat.{ℕ, zero, suc, _+_, _*_, _≤_, _<_}
 use mathlib.Core.List.{List, [], _∷_, _++_}
 use native.Mathlib.Omega.{arith}
 use lib.ListN.{length}
-use lib.Seq.{length-sets}
 use Rattle.basics.specs.Counting.{count}
 use Rattle.basics.proofs.Counting.{count-both}
 use Rattle.meaning.specs.declared.Statement.{Statement}
@@ -15,9 +14,9 @@ use Rattle.meaning.proofs.Lengths.{plain-length}
 use Rattle.meaning.proofs.Bounds.{statement-price}
 use Rattle.facts.specs.Facts.{factAt}
 use Rattle.facts.specs.Tied.{Stated}
-use Rattle.encode.specs.Records.{Listing, listing, writeS, nothingWritten, writeHeader}
-use Rattle.encode.proofs.Encoding.{put-all, Short, Listed, record-listed}
-use Rattle.encode.proofs.Header.{listed-size, listed-bytes}
+use Rattle.encode.specs.Records.{Listing, listing, writeS, nothingWritten}
+use Rattle.encode.proofs.Encoding.{Short, Listed, record-listed}
+use Rattle.encode.proofs.Header.{headed-made}
 use Rattle.choice.specs.Promises.{Holds}
 use Rattle.choice.specs.Plain.{plainRecords, plainIn}
 
@@ -67,22 +66,12 @@ module _ (b : Block) (facts out : List ℕ) (stated : Stated (b .statements) fac
           (record-listed out ss (plainFrom s 0) l (S s) listed
           (subst (Short ss) (sym longer) (plain-short ss (s + 1) (omega arith)))))
 
-  header-length : (l : Listing) → length (writeHeader l) ≡ length (l .out)
-  header-length l =
-      let front : List ℕ = 1 ∷ l .written .size / 256 % 256 ∷ l .written .size % 256 ∷ l .written .count % 256 ∷ [] in
-      ap length (put-all (l .out) 0 front) ∙ length-sets (l .out) 0 front
-
   -- The plain list stands in the first bytes.
   pub plain-holds : let l = plainIn facts (length ss) out in Holds ss (plainList b) (l .out) (l .written .size) (l .written .price)
   unfolding plainList
   plain-holds =
       let list = plainFrom (length ss) 0 in
-      let l = plainRecords facts (length ss) out in
       let enough : 4 + length (recordsBytes list) ≤ length out = omega (arith, plain-records (length ss) 0) in
       let short : length list < 256 = omega (arith, plain-length (length ss) 0) in
-      record {
-        bytes = listed-bytes out ss list l records-listed enough short;
-        sized = listed-size out ss list l records-listed enough short;
-        room = omega (arith, records-listed .size, enough, header-length l, ap length (records-listed .out), length-sets out 4 (recordsBytes list));
-        priced = records-listed .price;
-      }
+      let made = headed-made out ss list (plainRecords facts (length ss) out) records-listed enough short in
+      record { bytes = made .bytes; sized = made .size; room = made .room; priced = made .price }

@@ -20,6 +20,7 @@ use Rattle.meaning.specs.List.{lanesFit}
 use Rattle.meaning.specs.Emission.{tupleAt, destinations, operationOf}
 use Rattle.meaning.proofs.Bounds.{place-cells}
 use Rattle.theorems.specs.Units.{Every}
+use Rattle.theorems.proofs.Occurs.{every-map}
 use Rattle.codes.specs.Codes.{operandCode}
 use Rattle.codes.specs.Fitting.{placeFits, operandFits, statementFits}
 use Rattle.codes.proofs.Fits.{destination-fits, left-fits, right-fits}
@@ -59,12 +60,6 @@ module _ (ss : List Statement) (facts : List ℕ) (known : Known ss facts) where
       chosen : (copy there : Bool) → copy ≡ false → pick copy (not there) there ≡ true → there ≡ true
       chosen copy there e h = rw e at h
 
-  -- what holds of each statement's operand holds of the tuple's
-  tuple-all : (take-from : ℕ → Operand) (test : Operand → Bool) → ((s : ℕ) → s < length ss → test (take-from s) ≡ true)
-      → (unit : List ℕ) → Every (λ s. s < length ss) unit → all test (map take-from unit) ≡ true
-  tuple-all take-from test h [] range = refl
-  tuple-all take-from test h (s ∷ unit) range = and-both (test (take-from s)) _ (h s (range .0)) (tuple-all take-from test h unit (range .1))
-
   lanes-kept : (take-from : ℕ → Operand) (unit : List ℕ) → Laned unit → lanesFit (length (map take-from unit)) ≡ true
   lanes-kept take-from unit (two a b) = refl
   lanes-kept take-from unit (four a b c d) = refl
@@ -81,8 +76,8 @@ module _ (ss : List Statement) (facts : List ℕ) (known : Known ss facts) where
   lefts-fetchable unit shape range =
       record {
         lanes = lanes-kept (λ s. statement ss s .left) unit shape;
-        fit = tuple-all (λ s. statement ss s .left) operandFits (left-fits ss (known .fit)) unit range;
-        there = tuple-all (λ s. statement ss s .left) isOperand left-there unit range;
+        fit = every-map (λ s. s < length ss) (λ s. statement ss s .left) operandFits (left-fits ss (known .fit)) unit range;
+        there = every-map (λ s. s < length ss) (λ s. statement ss s .left) isOperand left-there unit range;
       }
 
   pub rights-fetchable : (unit : List ℕ) → Laned unit → Every (λ s. s < length ss) unit
@@ -91,19 +86,18 @@ module _ (ss : List Statement) (facts : List ℕ) (known : Known ss facts) where
   rights-fetchable unit shape range one other =
       record {
         lanes = lanes-kept (λ s. statement ss s .right) unit shape;
-        fit = tuple-all (λ s. statement ss s .right) operandFits (right-fits ss (known .fit)) unit range;
+        fit = every-map (λ s. s < length ss) (λ s. statement ss s .right) operandFits (right-fits ss (known .fit)) unit range;
         there = rights-there (operationOf ss unit) unit range one other;
       }
 
   pub destinations-fit : (unit : List ℕ) → Every (λ s. s < length ss) unit → all operandFits (destinations ss unit) ≡ true
-  destinations-fit unit range = tuple-all (λ s. Held (statement ss s .destination)) operandFits (destination-fits ss (known .fit)) unit range
+  destinations-fit unit range = every-map (λ s. s < length ss) (λ s. Held (statement ss s .destination)) operandFits (destination-fits ss (known .fit)) unit range
 
   pub destinations-laned : (unit : List ℕ) → Laned unit → lanesFit (length (destinations ss unit)) ≡ true
   destinations-laned unit shape = lanes-kept (λ s. Held (statement ss s .destination)) unit shape
 
   pub places-fit : (unit : List ℕ) → Every (λ s. s < length ss) unit → all placeFits (map (λ s. statement ss s .destination) unit) ≡ true
-  places-fit [] range = refl
-  places-fit (s ∷ unit) range = and-both (placeFits (statement ss s .destination)) _ (destination-fits ss (known .fit) s (range .0)) (places-fit unit (range .1))
+  places-fit unit range = every-map (λ s. s < length ss) (λ s. statement ss s .destination) placeFits (destination-fits ss (known .fit)) unit range
 
   -- the codes of a unit's operands in one column
   column-tuple : (column : ℕ) (take-from : ℕ → Operand) → ((s : ℕ) → s < length ss → factAt facts column s ≡ operandCode (take-from s))

@@ -46,11 +46,11 @@ module _ (base : List ℕ) (ss : List Statement) (list : List Instruction) (l : 
       ∙ ap (λ (n : ℕ). 1 ∷ (4 + length (recordsBytes list)) / 256 % 256 ∷ (4 + length (recordsBytes list)) / 1 % 256 ∷ n ∷ recordsBytes list) count
 
   -- so many bytes as the list has,
-  pub listed-size : l .written .size ≡ length (listBytes list)
+  listed-size : l .written .size ≡ length (listBytes list)
   listed-size = omega (arith, h .size, ap length (sym front-bytes), length-append front (recordsBytes list))
 
   -- and these bytes.
-  pub listed-bytes : take (l .written .size) (writeHeader l) ≡ listBytes list
+  listed-bytes : take (l .written .size) (writeHeader l) ≡ listBytes list
   listed-bytes =
       let regrouped : writeHeader l ≡ (front ++ recordsBytes list) ++ behind = header-stands ∙ sym (append-assoc front (recordsBytes list) behind) in
       ap (take (l .written .size)) (regrouped ∙ ap (λ (bytes : List ℕ). bytes ++ behind) front-bytes)

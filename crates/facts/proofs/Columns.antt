@@ -2,16 +2,17 @@
 use mathlib.Core.Path.{_≡_, refl, sym, ap, _∙_, subst}
 use mathlib.Core.Logic.{_≢_, _⊎_, inl, inr}
 use mathlib.Core.Bool.{true}
-use mathlib.Core.List.{List}
+use mathlib.Core.List.{List, [], _∷_}
 use Prim.Native.Nat.{ℕ, zero, suc, _+_, _*_, _≤_, _<_}
 use native.Mathlib.Omega.{arith}
-use lib.ListN.{length, getD, set, take, replicate, length-set, length-take, length-replicate}
-use lib.Seq.{getD-set-same, getD-set-other, getD-take}
+use lib.ListN.{length, getD, take, replicate, length-take, length-replicate}
+use lib.Seq.{getD-take}
 use borrow.Author.Tests.{lt-ltb, le-ltb}
 use Rattle.basics.specs.Lists.{all}
 use Rattle.basics.proofs.Counting.{count-up}
 use Rattle.basics.proofs.Tests.{below-or-not, equal-or-not}
 use Rattle.basics.proofs.Lists.{replicate-at}
+use Rattle.basics.proofs.Stores.{stored-length, stored-else, stored-own}
 use Rattle.meaning.specs.declared.Statement.{Statement}
 use Rattle.meaning.specs.Block.{blank, statement, statementPrice}
 use Rattle.codes.specs.Codes.{placeCode, operandCode, cellCode}
@@ -32,98 +33,40 @@ own (suc (suc (suc (suc zero)))) s =
     cellCode (operandCode (s .left)) + cellCode (operandCode (s .right)) + 1 + cellCode (placeCode (s .destination))
 own (suc (suc (suc (suc (suc k))))) s = 0
 
--- five stores, one a column
-module _ (facts : List ℕ) (i a b c d e : ℕ) where
-  abbrev one : List ℕ
-  one = set facts i a
-
-  abbrev two : List ℕ
-  two = set one (64 + i) b
-
-  abbrev three : List ℕ
-  three = set two (128 + i) c
-
-  abbrev four : List ℕ
-  four = set three (192 + i) d
-
-  abbrev five : List ℕ
-  five = set four (256 + i) e
-
-  one-length : length one ≡ length facts
-  one-length = length-set facts i a
-
-  two-length : length two ≡ length facts
-  two-length = length-set one (64 + i) b ∙ one-length
-
-  three-length : length three ≡ length facts
-  three-length = length-set two (128 + i) c ∙ two-length
-
-  four-length : length four ≡ length facts
-  four-length = length-set three (192 + i) d ∙ three-length
-
-  five-length : length five ≡ length facts
-  five-length = length-set four (256 + i) e ∙ four-length
-
-  module _ (at : ℕ) where
-    past-four : at ≢ 256 + i → getD five at 0 ≡ getD four at 0
-    past-four h = getD-set-other four (256 + i) at e 0 h
-
-    past-three : at ≢ 256 + i → at ≢ 192 + i → getD five at 0 ≡ getD three at 0
-    past-three h g = past-four h ∙ getD-set-other three (192 + i) at d 0 g
-
-    past-two : at ≢ 256 + i → at ≢ 192 + i → at ≢ 128 + i → getD five at 0 ≡ getD two at 0
-    past-two h g k = past-three h g ∙ getD-set-other two (128 + i) at c 0 k
-
-    past-one : at ≢ 256 + i → at ≢ 192 + i → at ≢ 128 + i → at ≢ 64 + i → getD five at 0 ≡ getD one at 0
-    past-one h g k m = past-two h g k ∙ getD-set-other one (64 + i) at b 0 m
-
-    past-all : at ≢ 256 + i → at ≢ 192 + i → at ≢ 128 + i → at ≢ 64 + i → at ≢ i → getD five at 0 ≡ getD facts at 0
-    past-all h g k m n = past-one h g k m ∙ getD-set-other facts i at a 0 n
-
 module _ (i : ℕ) (s : Statement) (facts : List ℕ) (whole : length facts ≡ 512) (low : i < 64) where
-  abbrev d : ℕ
-  d = own 0 s
-
-  abbrev l : ℕ
-  l = own 1 s
-
-  abbrev r : ℕ
-  r = own 2 s
-
-  abbrev sort : ℕ
-  sort = own 3 s
-
-  abbrev price : ℕ
-  price = own 4 s
+  -- five stores, one a column
+  abbrev slots : List (ℕ × ℕ)
+  slots = (i, own 0 s) ∷ (64 + i, own 1 s) ∷ (128 + i, own 2 s) ∷ (192 + i, own 3 s) ∷ (256 + i, own 4 s) ∷ []
 
   stated-length : length (stateFacts i s facts) ≡ 512
-  stated-length = five-length facts i d l r sort price ∙ whole
+  stated-length = stored-length slots facts ∙ whole
 
   -- the statement's own facts
   stated-own : (k : ℕ) → k < 5 → getD (stateFacts i s facts) (64 * k + i) 0 ≡ own k s
   stated-own zero h =
-      past-one facts i d l r sort price (64 * 0 + i) (omega arith) (omega arith) (omega arith) (omega arith)
-      ∙ ap (λ (at : ℕ). getD (one facts i d l r sort price) at 0) (omega arith) ∙ getD-set-same facts i d 0 (omega arith)
+      ap (λ (at : ℕ). getD (stateFacts i s facts) at 0) (omega arith)
+      ∙ stored-own [] i (own 0 s) ((64 + i, own 1 s) ∷ (128 + i, own 2 s) ∷ (192 + i, own 3 s) ∷ (256 + i, own 4 s) ∷ []) facts 0 (omega arith)
+      (omega arith, (omega arith, (omega arith, (omega arith, tt))))
   stated-own (suc zero) h =
-      past-two facts i d l r sort price (64 * 1 + i) (omega arith) (omega arith) (omega arith)
-      ∙ getD-set-same (one facts i d l r sort price) (64 + i) l 0 (omega (arith, one-length facts i d l r sort price))
+      stored-own ((i, own 0 s) ∷ []) (64 + i) (own 1 s) ((128 + i, own 2 s) ∷ (192 + i, own 3 s) ∷ (256 + i, own 4 s) ∷ []) facts 0 (omega arith)
+      (omega arith, (omega arith, (omega arith, tt)))
   stated-own (suc (suc zero)) h =
-      past-three facts i d l r sort price (64 * 2 + i) (omega arith) (omega arith)
-      ∙ getD-set-same (two facts i d l r sort price) (128 + i) r 0 (omega (arith, two-length facts i d l r sort price))
+      stored-own ((i, own 0 s) ∷ (64 + i, own 1 s) ∷ []) (128 + i) (own 2 s) ((192 + i, own 3 s) ∷ (256 + i, own 4 s) ∷ []) facts 0 (omega arith)
+      (omega arith, (omega arith, tt))
   stated-own (suc (suc (suc zero))) h =
-      past-four facts i d l r sort price (64 * 3 + i) (omega arith)
-      ∙ getD-set-same (three facts i d l r sort price) (192 + i) sort 0 (omega (arith, three-length facts i d l r sort price))
+      stored-own ((i, own 0 s) ∷ (64 + i, own 1 s) ∷ (128 + i, own 2 s) ∷ []) (192 + i) (own 3 s) ((256 + i, own 4 s) ∷ []) facts 0 (omega arith)
+      (omega arith, tt)
   stated-own (suc (suc (suc (suc zero)))) h =
-      getD-set-same (four facts i d l r sort price) (256 + i) price 0 (omega (arith, four-length facts i d l r sort price))
+      stored-own ((i, own 0 s) ∷ (64 + i, own 1 s) ∷ (128 + i, own 2 s) ∷ (192 + i, own 3 s) ∷ []) (256 + i) (own 4 s) [] facts 0 (omega arith) tt
   stated-own (suc (suc (suc (suc (suc k))))) h = absurd (omega arith)
 
   -- the facts of the others, and the columns that others fill
   stated-others : (k t : ℕ) → t < 64 → t ≢ i → getD (stateFacts i s facts) (64 * k + t) 0 ≡ getD facts (64 * k + t) 0
   stated-others k t small other =
-      past-all facts i d l r sort price (64 * k + t) (omega arith) (omega arith) (omega arith) (omega arith) (omega arith)
+      stored-else (64 * k + t) slots facts 0 (omega arith, (omega arith, (omega arith, (omega arith, (omega arith, tt)))))
 
   stated-beyond : (k : ℕ) → 5 ≤ k → getD (stateFacts i s facts) (64 * k + i) 0 ≡ getD facts (64 * k + i) 0
-  stated-beyond k h = past-all facts i d l r sort price (64 * k + i) (omega arith) (omega arith) (omega arith) (omega arith) (omega arith)
+  stated-beyond k h = stored-else (64 * k + i) slots facts 0 (omega arith, (omega arith, (omega arith, (omega arith, (omega arith, tt)))))
 
 own-beyond : (k : ℕ) (s : Statement) → 5 ≤ k → own k s ≡ 0
 own-beyond zero s h = absurd (omega arith)

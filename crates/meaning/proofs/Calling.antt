@@ -2,6 +2,7 @@
 use Prim.Native.Nat.{ℕ, zero, suc, _+_}
 use mathlib.Core.List.{List, [], _∷_, _++_}
 use lib.ListN.{length}
+use Rattle.basics.specs.Counting.{numbers}
 use Rattle.basics.specs.Lists.{fill}
 use Rattle.meaning.specs.declared.Place.{Place}
 use Rattle.meaning.specs.declared.Place.the-variants.{Variable}
@@ -59,10 +60,6 @@ abbrev pub good : List ℕ
 good = bytesOf 17 0x01_0011_02_00_02_01_0002_0004_050001000101
 
 -- so many variables and cells, no two of them alike; and as many as that block declares
-abbrev pub numbers : ℕ → ℕ → List ℕ
-numbers zero n = []
-numbers (suc size) n = n ∷ numbers size (n + 1)
-
 abbrev pub contents : ℕ → ℕ → Contents
 contents variables cells = record { variables = numbers variables 5; cells = numbers cells 50 }
 

@@ -12,7 +12,7 @@ use borrow.Author.Tests.{ltb-true, lt-ltb, eqb-true, eq-eqb, not-true}
 use Rattle.basics.specs.Choice.{pick}
 use Rattle.basics.specs.Sets.{nobody, only, join, has}
 use Rattle.basics.proofs.Tests.{and-left, and-right, and-both, or-either, or-left, or-right, below-or-not}
-use Rattle.basics.proofs.Counting.{count-up}
+use Rattle.basics.proofs.Counting.{one-further, count-up}
 use Rattle.basics.proofs.Sets.{has-nobody, has-only, has-join}
 use Rattle.meaning.specs.declared.Statement.{Statement}
 use Rattle.meaning.specs.Dependence.{dependsOn, Path, direct, through, reachedBy, reachability, reaches, independent}
@@ -122,16 +122,13 @@ record RightRows (ss : List Statement) (k : ℕ) (rows : List ℕ) : Type 0 wher
 one-more : (ss : List Statement) (k : ℕ) (rows : List ℕ) → RightRows ss k rows → RightRows ss (k + 1) (rows ++ reachedBy ss rows k ∷ [])
 one-more ss k rows h = record { sized = length-append rows _ ∙ omega (arith, h .sized); right = right }
   where
-    here : (later s : ℕ) → (later < k) ⊎ (k ≤ later) → later < k + 1
-        → (has (getD (rows ++ reachedBy ss rows k ∷ []) later nobody) s ≡ true) ↔ Path ss later s
-    here later s (inl low) high = rw (List·getD-append rows (reachedBy ss rows k ∷ []) nobody later (omega (arith, h .sized))) (h .right later s low)
-    here later s (inr low) high =
-        let e : later ≡ k = omega arith in
-        rw (e, getD-at rows (reachedBy ss rows k) [] nobody k (h .sized))
-        (λ reached. step-path (row-right ss rows k (h .right) s .0 reached), λ path. row-right ss rows k (h .right) s .1 (path-step path))
-
     right : Right ss (k + 1) (rows ++ reachedBy ss rows k ∷ [])
-    right later s high = here later s (below-or-not later k) high
+    right later s =
+        one-further (λ at. (has (getD (rows ++ reachedBy ss rows k ∷ []) at nobody) s ≡ true) ↔ Path ss at s) k
+        (λ at low. rw (List·getD-append rows (reachedBy ss rows k ∷ []) nobody at (omega (arith, h .sized))) (h .right at s low))
+        (rw (getD-at rows (reachedBy ss rows k) [] nobody k (h .sized))
+        (λ reached. step-path (row-right ss rows k (h .right) s .0 reached), λ path. row-right ss rows k (h .right) s .1 (path-step path)))
+        later
 
 rows-right : (ss : List Statement) → RightRows ss (length ss) (reachability ss)
 unfolding reachability

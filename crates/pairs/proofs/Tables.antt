@@ -40,14 +40,6 @@ onto-size : (pairs : List Pair) (t : Tables) → onto pairs t .size ≡ t .size 
 onto-size [] t = omega arith
 onto-size (p ∷ pairs) t = omega (arith, onto-size pairs (admitTo p t))
 
-onto-order : (pairs : List Pair) (t : Tables) → length (onto pairs t .order) ≡ length (t .order)
-onto-order [] t = refl
-onto-order (p ∷ pairs) t = onto-order pairs (admitTo p t) ∙ length-set (t .order) (t .size) (p .left)
-
-onto-next : (pairs : List Pair) (t : Tables) → length (onto pairs t .next) ≡ length (t .next)
-onto-next [] t = refl
-onto-next (p ∷ pairs) t = onto-next pairs (admitTo p t) ∙ length-set (t .next) (p .left) (p .right)
-
 -- what was there before stays in order
 onto-before : (pairs : List Pair) (t : Tables) (i : ℕ) → i < t .size → getD (onto pairs t .order) i 64 ≡ getD (t .order) i 64
 onto-before [] t i h = refl
@@ -136,18 +128,10 @@ left-once s (p ∷ pairs) differ = either (eqb s (p .left)) refl (left-once s pa
         omega arith
     either false other later = omega arith
 
--- What needs nothing of the pairs: how many there are, and how long the tables are.
+-- What needs nothing of the pairs: how many there are, and who is right in one.
 pub tables-size : (pairs : List Pair) → tablesOf pairs .size ≡ length pairs
 unfolding tablesOf
 tables-size pairs = onto-size pairs empty ∙ omega arith
-
-pub order-length : (pairs : List Pair) → length (tablesOf pairs .order) ≡ 64
-unfolding tablesOf
-order-length pairs = onto-order pairs empty
-
-pub next-length : (pairs : List Pair) → length (tablesOf pairs .next) ≡ 64
-unfolding tablesOf
-next-length pairs = onto-next pairs empty
 
 pub rights-tied : (pairs : List Pair) (s : ℕ) → has (tablesOf pairs .rights) s ≡ isRight pairs s
 unfolding tablesOf

@@ -15,7 +15,7 @@ use Rattle.basics.specs.Choice.{pick}
 use Rattle.basics.specs.Lists.{all}
 use Rattle.basics.specs.Sets.{only, join, has}
 use Rattle.basics.proofs.Tests.{same-test, below-or-not}
-use Rattle.basics.proofs.Counting.{count-up, count-through}
+use Rattle.basics.proofs.Counting.{one-further, count-up, count-through}
 use Rattle.basics.proofs.Sets.{has-nobody, has-only, has-join, has-both, has-below, no-one}
 use Rattle.meaning.specs.declared.Place.the-variants.{Variable, Cell}
 use Rattle.meaning.specs.declared.Operand.{Operand}
@@ -100,24 +100,18 @@ define-one : (lefts rights : ℕ → ℕ) (before : List ℕ) (k : ℕ) (facts :
 define-one lefts rights before k facts l r small el er h =
     record {
       sized = length-set (set facts (320 + k) l) (384 + k) r ∙ length-set facts (320 + k) l ∙ h .sized;
-      left = λ s below. left s (below-or-not s k) below;
-      right = λ s below. right s (below-or-not s k) below;
+      left =
+          one-further (λ s. getD (set (set facts (320 + k) l) (384 + k) r) (320 + s) 0 ≡ lefts s) k
+          (λ s earlier. two-others facts (320 + k) (384 + k) l r (320 + s) (omega arith) (omega arith) ∙ h .left s earlier)
+          (two-first facts (320 + k) (384 + k) l r (omega arith) (omega (arith, h .sized)) ∙ el);
+      right =
+          one-further (λ s. getD (set (set facts (320 + k) l) (384 + k) r) (384 + s) 0 ≡ rights s) k
+          (λ s earlier. two-others facts (320 + k) (384 + k) l r (384 + s) (omega arith) (omega arith) ∙ h .right s earlier)
+          (two-second facts (320 + k) (384 + k) l r (omega (arith, h .sized)) ∙ er);
       low = λ at below. two-others facts (320 + k) (384 + k) l r at (omega arith) (omega arith) ∙ h .low at below;
       between = λ at above below. two-others facts (320 + k) (384 + k) l r at (omega arith) (omega arith) ∙ h .between at (omega arith) below;
       high = λ at above. two-others facts (320 + k) (384 + k) l r at (omega arith) (omega arith) ∙ h .high at (omega arith);
     }
-  where
-    left : (s : ℕ) → (s < k) ⊎ (k ≤ s) → s < k + 1 → getD (set (set facts (320 + k) l) (384 + k) r) (320 + s) 0 ≡ lefts s
-    left s (inl earlier) below = two-others facts (320 + k) (384 + k) l r (320 + s) (omega arith) (omega arith) ∙ h .left s earlier
-    left s (inr last) below =
-        let this : s ≡ k = omega arith in
-        rw this (two-first facts (320 + k) (384 + k) l r (omega arith) (omega (arith, h .sized)) ∙ el)
-
-    right : (s : ℕ) → (s < k) ⊎ (k ≤ s) → s < k + 1 → getD (set (set facts (320 + k) l) (384 + k) r) (384 + s) 0 ≡ rights s
-    right s (inl earlier) below = two-others facts (320 + k) (384 + k) l r (384 + s) (omega arith) (omega arith) ∙ h .right s earlier
-    right s (inr last) below =
-        let this : s ≡ k = omega arith in
-        rw this (two-second facts (320 + k) (384 + k) l r (omega (arith, h .sized)) ∙ er)
 
 -- the last definitions that the tables give
 abbrev definedBy : List ℕ → List ℕ → List ℕ → ℕ → ℕ → ℕ

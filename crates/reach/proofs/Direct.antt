@@ -14,7 +14,7 @@ use borrow.Author.Tests.{eqb-true, eq-eqb, lt-ltb, le-ltb}
 use Rattle.basics.specs.Lists.{all}
 use Rattle.basics.specs.Sets.{join, has}
 use Rattle.basics.proofs.Tests.{and-left, same-test, below-or-not}
-use Rattle.basics.proofs.Counting.{count-up}
+use Rattle.basics.proofs.Counting.{one-further, count-up}
 use Rattle.basics.proofs.Lists.{replicate-at}
 use Rattle.basics.proofs.Sets.{has-nobody, has-join, has-both, has-below}
 use Rattle.meaning.specs.declared.Place.{Place}
@@ -136,15 +136,12 @@ pub one-filled : (row : ℕ → ℕ) (k : ℕ) (rows : List ℕ) (r : ℕ) → k
 one-filled row k rows r h e so-far =
     record {
       sized = length-set rows k r ∙ so-far .sized;
-      filled = λ s low. here s (below-or-not s k) low;
+      filled =
+          one-further (λ s. getD (set rows k r) s 0 ≡ row s) k
+          (λ s low. getD-set-other rows k s r 0 (omega arith) ∙ so-far .filled s low)
+          (getD-set-same rows k r 0 (omega (arith, so-far .sized)) ∙ e);
       rest = λ s high. getD-set-other rows k s r 0 (omega arith) ∙ so-far .rest s (omega arith);
     }
-  where
-    here : (s : ℕ) → (s < k) ⊎ (k ≤ s) → s < k + 1 → getD (set rows k r) s 0 ≡ row s
-    here s (inl low) below = getD-set-other rows k s r 0 (omega arith) ∙ so-far .filled s low
-    here s (inr high) below =
-        let this : s ≡ k = omega arith in
-        rw this (getD-set-same rows k r 0 (omega (arith, so-far .sized)) ∙ e)
 
 -- what is no statement of the block depends on nothing, and nothing depends on what does not come before it
 pub no-dependence : (ss : List Statement) (later e : ℕ) → length ss ≤ later → dependsOn ss later e ≡ false

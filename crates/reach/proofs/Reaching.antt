@@ -14,7 +14,7 @@ use Rattle.basics.specs.Choice.{pick}
 use Rattle.basics.specs.Lists.{all}
 use Rattle.basics.specs.Sets.{nobody, only, join, has}
 use Rattle.basics.proofs.Tests.{below-or-not, or-left, or-right}
-use Rattle.basics.proofs.Counting.{count-both}
+use Rattle.basics.proofs.Counting.{one-further, count-both}
 use Rattle.basics.proofs.Sets.{has-nobody, has-only, has-join, same-sets, no-one}
 use Rattle.meaning.specs.declared.Statement.{Statement}
 use Rattle.meaning.specs.Block.{statement}
@@ -45,7 +45,10 @@ alike-yes : (direct j grown built reached : ℕ) → has direct j ≡ true → A
 alike-yes direct j grown built reached e h =
     record {
       members = λ i. has-join grown reached i ∙ ap (λ (t : Bool). t || has reached i) (h .members i) ∙ both i (eqb j i) refl ∙ ap (λ (t : Bool). has direct i || t) (sym (built-has i));
-      met = λ i low d. built-has i ∙ here i (below-or-not i j) low d;
+      met =
+          one-further (λ i. has direct i ≡ true → has (join built (join (only j) reached)) i ≡ true) j
+          (λ i low d. built-has i ∙ or-left (has built i) _ (h .met i low d))
+          (λ d. built-has j ∙ or-right (has built j) _ (or-left (eqb j j) _ (eq-eqb j j refl)));
     }
   where
     built-has : (i : ℕ) → has (join built (join (only j) reached)) i ≡ has built i || (eqb j i || has reached i)
@@ -59,19 +62,13 @@ alike-yes direct j grown built reached e h =
         rw here
     both i false t = or-assoc (has direct i) (has built i) (has reached i)
 
-    here : (i : ℕ) → (i < j) ⊎ (j ≤ i) → i < j + 1 → has direct i ≡ true → has built i || (eqb j i || has reached i) ≡ true
-    here i (inl low) below d = or-left (has built i) _ (h .met i low d)
-    here i (inr high) below d = or-right (has built i) _ (or-left (eqb j i) _ (eq-eqb j i (omega arith)))
-
 -- one that it does not depend on is passed over
 alike-no : (direct j grown built : ℕ) → has direct j ≡ false → Alike direct j grown built → Alike direct (j + 1) grown built
-alike-no direct j grown built e h = record { members = h .members; met = λ i low d. here i (below-or-not i j) low d }
-  where
-    here : (i : ℕ) → (i < j) ⊎ (j ≤ i) → i < j + 1 → has direct i ≡ true → has built i ≡ true
-    here i (inl low) below d = h .met i low d
-    here i (inr high) below d =
-        let this : i ≡ j = omega arith in
-        absurd (false≢true (sym e ∙ ap (has direct) (sym this) ∙ d))
+alike-no direct j grown built e h =
+    record {
+      members = h .members;
+      met = one-further (λ i. has direct i ≡ true → has built i ≡ true) j (h .met) (λ d. absurd (false≢true (sym e ∙ d)));
+    }
 
 -- when all are met the two are one
 alike-end : (direct k grown built : ℕ) → ((i : ℕ) → k ≤ i → has direct i ≡ false) → Alike direct k grown built → grown ≡ built
@@ -124,17 +121,14 @@ one-more k reached rows r r′ low e h =
     record {
       sized = length-set reached k r ∙ h .sized;
       counted = length-append rows (r′ ∷ []) ∙ omega (arith, h .counted);
-      equal = λ s below. here s (below-or-not s k) below;
+      equal =
+          one-further (λ s. getD (set reached k r) s 0 ≡ getD (rows ++ r′ ∷ []) s nobody) k
+          (λ s below.
+          getD-set-other reached k s r 0 (omega arith)
+          ∙ h .equal s below
+          ∙ sym (List·getD-append rows (r′ ∷ []) nobody s (omega (arith, h .counted))))
+          (getD-set-same reached k r 0 (omega (arith, h .sized)) ∙ e ∙ sym (getD-at rows r′ [] nobody k (h .counted)));
     }
-  where
-    here : (s : ℕ) → (s < k) ⊎ (k ≤ s) → s < k + 1 → getD (set reached k r) s 0 ≡ getD (rows ++ r′ ∷ []) s nobody
-    here s (inl low) below =
-        getD-set-other reached k s r 0 (omega arith)
-        ∙ h .equal s low
-        ∙ sym (List·getD-append rows (r′ ∷ []) nobody s (omega (arith, h .counted)))
-    here s (inr high) below =
-        let this : s ≡ k = omega arith in
-        rw this (getD-set-same reached k r 0 (omega (arith, h .sized)) ∙ e ∙ sym (getD-at rows r′ [] nobody k (h .counted)))
 
 -- The law of the rows.
 module _ (ss : List Statement) (small : length ss ≤ 64) (direct : List ℕ)

@@ -8,14 +8,15 @@ use Prim.Native.Nat.{ℕ, suc, _+_, _*_, _%_, _≤_, _<_}
 use native.Mathlib.Nat.{add-zero}
 use native.Mathlib.Omega.{arith}
 use lib.Dec.{eqb}
-use lib.ListN.{length, getD, set, replicate, length-set, length-append, length-map, length-replicate, List·getD-append, List·getD-map}
-use lib.Seq.{getD-append-seam, getD-set-same, getD-set-other}
+use lib.ListN.{length, getD, replicate, length-append, length-map, length-replicate, List·getD-append, List·getD-map}
+use lib.Seq.{getD-append-seam}
 use lib.Bits.{bitAnd}
 use borrow.Author.Tests.{eqb-true}
 use Rattle.basics.specs.Lists.{any, all}
 use Rattle.basics.specs.Sets.{only, join, has}
 use Rattle.basics.proofs.Tests.{or-either, neither-left, below-or-not}
 use Rattle.basics.proofs.Sets.{has-join}
+use Rattle.basics.proofs.Stores.{storedAt, stored-length, stored-else, stored-own}
 use Rattle.meaning.specs.declared.Operand.{Operand}
 use Rattle.meaning.specs.declared.Statement.{Statement}
 use Rattle.meaning.specs.Block.{statement, names}
@@ -115,82 +116,41 @@ module _ (ss : List Statement) (done : ℕ) (table : List ℕ) (os : List Operan
       (λ i below. subst (λ (k : ℕ). Holding ss done table k (getD registers i noRegister)) (omega arith) (h .holds i below)))
 
 -- a register that is put into the table: its own slots, and those of the others
-module _ (table : List ℕ) (r a b c d k e : ℕ) where
-  abbrev set-0 : List ℕ
-  set-0 = set table r a
+module _ (r a b c d k e : ℕ) where
+  abbrev slots : List (ℕ × ℕ)
+  slots = (r, a) ∷ (r + 96, b) ∷ (r + 192, c) ∷ (r + 288, d) ∷ (r + 384, k) ∷ (r + 480, e) ∷ []
 
-  abbrev set-1 : List ℕ
-  set-1 = set set-0 (r + 96) b
+  module _ (table : List ℕ) where
+    aside : (q other column : ℕ) → q ≡ other + 96 * column → other < 96 → r < 96 → (other ≡ r → ⊥) → getD (storedAt slots table) q 0 ≡ getD table q 0
+    aside q other column is low few differ =
+        stored-else q slots table 0 (omega arith, (omega arith, (omega arith, (omega arith, (omega arith, (omega arith, tt))))))
 
-  abbrev set-2 : List ℕ
-  set-2 = set set-1 (r + 192) c
+    module _ (sized : length table ≡ 576) (few : r < 96) where
+      own-0 : getD (storedAt slots table) r 0 ≡ a
+      own-0 =
+          stored-own [] r a ((r + 96, b) ∷ (r + 192, c) ∷ (r + 288, d) ∷ (r + 384, k) ∷ (r + 480, e) ∷ []) table 0 (omega arith)
+          (omega arith, (omega arith, (omega arith, (omega arith, (omega arith, tt)))))
 
-  abbrev set-3 : List ℕ
-  set-3 = set set-2 (r + 288) d
+      own-1 : getD (storedAt slots table) (r + 96) 0 ≡ b
+      own-1 =
+          stored-own ((r, a) ∷ []) (r + 96) b ((r + 192, c) ∷ (r + 288, d) ∷ (r + 384, k) ∷ (r + 480, e) ∷ []) table 0 (omega arith)
+          (omega arith, (omega arith, (omega arith, (omega arith, tt))))
 
-  abbrev set-4 : List ℕ
-  set-4 = set set-3 (r + 384) k
+      own-2 : getD (storedAt slots table) (r + 192) 0 ≡ c
+      own-2 =
+          stored-own ((r, a) ∷ (r + 96, b) ∷ []) (r + 192) c ((r + 288, d) ∷ (r + 384, k) ∷ (r + 480, e) ∷ []) table 0 (omega arith)
+          (omega arith, (omega arith, (omega arith, tt)))
 
-  abbrev set-5 : List ℕ
-  set-5 = set set-4 (r + 480) e
+      own-3 : getD (storedAt slots table) (r + 288) 0 ≡ d
+      own-3 =
+          stored-own ((r, a) ∷ (r + 96, b) ∷ (r + 192, c) ∷ []) (r + 288) d ((r + 384, k) ∷ (r + 480, e) ∷ []) table 0 (omega arith)
+          (omega arith, (omega arith, tt))
 
-  set-length : length set-5 ≡ length table
-  set-length =
-      length-set set-4 (r + 480) e
-      ∙ length-set set-3 (r + 384) k
-      ∙ length-set set-2 (r + 288) d
-      ∙ length-set set-1 (r + 192) c
-      ∙ length-set set-0 (r + 96) b
-      ∙ length-set table r a
+      own-4 : getD (storedAt slots table) (r + 384) 0 ≡ k
+      own-4 = stored-own ((r, a) ∷ (r + 96, b) ∷ (r + 192, c) ∷ (r + 288, d) ∷ []) (r + 384) k ((r + 480, e) ∷ []) table 0 (omega arith) (omega arith, tt)
 
-  aside : (q other column : ℕ) → q ≡ other + 96 * column → other < 96 → r < 96 → (other ≡ r → ⊥) → getD set-5 q 0 ≡ getD table q 0
-  aside q other column is low few differ =
-      getD-set-other set-4 (r + 480) q e 0 (λ (h : q ≡ r + 480). differ (omega arith))
-      ∙ getD-set-other set-3 (r + 384) q k 0 (λ (h : q ≡ r + 384). differ (omega arith))
-      ∙ getD-set-other set-2 (r + 288) q d 0 (λ (h : q ≡ r + 288). differ (omega arith))
-      ∙ getD-set-other set-1 (r + 192) q c 0 (λ (h : q ≡ r + 192). differ (omega arith))
-      ∙ getD-set-other set-0 (r + 96) q b 0 (λ (h : q ≡ r + 96). differ (omega arith))
-      ∙ getD-set-other table r q a 0 (λ (h : q ≡ r). differ (omega arith))
-
-  module _ (sized : length table ≡ 576) (few : r < 96) where
-    own-0 : getD set-5 r 0 ≡ a
-    own-0 =
-        getD-set-other set-4 (r + 480) r e 0 (λ (h : r ≡ r + 480). omega arith)
-        ∙ getD-set-other set-3 (r + 384) r k 0 (λ (h : r ≡ r + 384). omega arith)
-        ∙ getD-set-other set-2 (r + 288) r d 0 (λ (h : r ≡ r + 288). omega arith)
-        ∙ getD-set-other set-1 (r + 192) r c 0 (λ (h : r ≡ r + 192). omega arith)
-        ∙ getD-set-other set-0 (r + 96) r b 0 (λ (h : r ≡ r + 96). omega arith)
-        ∙ getD-set-same table r a 0 (omega arith)
-
-    own-1 : getD set-5 (r + 96) 0 ≡ b
-    own-1 =
-        getD-set-other set-4 (r + 480) (r + 96) e 0 (λ (h : r + 96 ≡ r + 480). omega arith)
-        ∙ getD-set-other set-3 (r + 384) (r + 96) k 0 (λ (h : r + 96 ≡ r + 384). omega arith)
-        ∙ getD-set-other set-2 (r + 288) (r + 96) d 0 (λ (h : r + 96 ≡ r + 288). omega arith)
-        ∙ getD-set-other set-1 (r + 192) (r + 96) c 0 (λ (h : r + 96 ≡ r + 192). omega arith)
-        ∙ getD-set-same set-0 (r + 96) b 0 (omega (arith, length-set table r a))
-
-    own-2 : getD set-5 (r + 192) 0 ≡ c
-    own-2 =
-        getD-set-other set-4 (r + 480) (r + 192) e 0 (λ (h : r + 192 ≡ r + 480). omega arith)
-        ∙ getD-set-other set-3 (r + 384) (r + 192) k 0 (λ (h : r + 192 ≡ r + 384). omega arith)
-        ∙ getD-set-other set-2 (r + 288) (r + 192) d 0 (λ (h : r + 192 ≡ r + 288). omega arith)
-        ∙ getD-set-same set-1 (r + 192) c 0 (omega (arith, length-set set-0 (r + 96) b, length-set table r a))
-
-    own-3 : getD set-5 (r + 288) 0 ≡ d
-    own-3 =
-        getD-set-other set-4 (r + 480) (r + 288) e 0 (λ (h : r + 288 ≡ r + 480). omega arith)
-        ∙ getD-set-other set-3 (r + 384) (r + 288) k 0 (λ (h : r + 288 ≡ r + 384). omega arith)
-        ∙ getD-set-same set-2 (r + 288) d 0 (omega (arith, length-set set-1 (r + 192) c, length-set set-0 (r + 96) b, length-set table r a))
-
-    own-4 : getD set-5 (r + 384) 0 ≡ k
-    own-4 =
-        getD-set-other set-4 (r + 480) (r + 384) e 0 (λ (h : r + 384 ≡ r + 480). omega arith)
-        ∙ getD-set-same set-3 (r + 384) k 0
-        (omega (arith, length-set set-2 (r + 288) d, length-set set-1 (r + 192) c, length-set set-0 (r + 96) b, length-set table r a))
-
-    own-5 : getD set-5 (r + 480) 0 ≡ e
-    own-5 = getD-set-same set-4 (r + 480) e 0 (omega (arith, set-length, length-set set-4 (r + 480) e))
+      own-5 : getD (storedAt slots table) (r + 480) 0 ≡ e
+      own-5 = stored-own ((r, a) ∷ (r + 96, b) ∷ (r + 192, c) ∷ (r + 288, d) ∷ (r + 384, k) ∷ []) (r + 480) e [] table 0 (omega arith) tt
 
 holding-stays : (ss : List Statement) (done : ℕ) (table after : List ℕ) (r : ℕ) (register : Register) → Holding ss done table r register
     → ((q column : ℕ) → q ≡ r + 96 * column → getD after q 0 ≡ getD table q 0) → Holding ss done after r register
@@ -216,7 +176,7 @@ module _ (ss : List Statement) (numbers writers : List ℕ) (named : Names ss (�
       → Registers ss done (registers ++ holding os ∷ []) (holdTuple numbers writers (tupleOf os) done (length registers) table)
   registers-more done os registers table lanes fit few h =
       record {
-        sized = set-length table n (laneCode os 0) (laneCode os 1) (laneCode os 2) (laneCode os 3) (length os) ending ∙ h .sized;
+        sized = stored-length (slots n (laneCode os 0) (laneCode os 1) (laneCode os 2) (laneCode os 3) (length os) ending) table ∙ h .sized;
         holds = λ r below. by r below (below-or-not r n);
       }
     where
@@ -231,15 +191,15 @@ module _ (ss : List Statement) (numbers writers : List ℕ) (named : Names ss (�
 
       own : Holding ss done after n (holding os)
       own =
-          let last : getD after (n + 480) 0 ≡ ending = own-5 table n (laneCode os 0) (laneCode os 1) (laneCode os 2) (laneCode os 3) (length os) ending (h .sized) few in
+          let last : getD after (n + 480) 0 ≡ ending = own-5 n (laneCode os 0) (laneCode os 1) (laneCode os 2) (laneCode os 3) (length os) ending table (h .sized) few in
           record {
             lanes = lanes;
             fit = fit;
-            lane-0 = own-0 table n (laneCode os 0) (laneCode os 1) (laneCode os 2) (laneCode os 3) (length os) ending (h .sized) few;
-            lane-1 = own-1 table n (laneCode os 0) (laneCode os 1) (laneCode os 2) (laneCode os 3) (length os) ending (h .sized) few;
-            lane-2 = own-2 table n (laneCode os 0) (laneCode os 1) (laneCode os 2) (laneCode os 3) (length os) ending (h .sized) few;
-            lane-3 = own-3 table n (laneCode os 0) (laneCode os 1) (laneCode os 2) (laneCode os 3) (length os) ending (h .sized) few;
-            count = own-4 table n (laneCode os 0) (laneCode os 1) (laneCode os 2) (laneCode os 3) (length os) ending (h .sized) few;
+            lane-0 = own-0 n (laneCode os 0) (laneCode os 1) (laneCode os 2) (laneCode os 3) (length os) ending table (h .sized) few;
+            lane-1 = own-1 n (laneCode os 0) (laneCode os 1) (laneCode os 2) (laneCode os 3) (length os) ending table (h .sized) few;
+            lane-2 = own-2 n (laneCode os 0) (laneCode os 1) (laneCode os 2) (laneCode os 3) (length os) ending table (h .sized) few;
+            lane-3 = own-3 n (laneCode os 0) (laneCode os 1) (laneCode os 2) (laneCode os 3) (length os) ending table (h .sized) few;
+            count = own-4 n (laneCode os 0) (laneCode os 1) (laneCode os 2) (laneCode os 3) (length os) ending table (h .sized) few;
             ends = λ s below pending.
                 ap (λ (set-of : ℕ). has set-of s) last ∙ ends-named ss numbers writers named os done s (laned os lanes) fit below (places s below) pending;
             current = sym (ap (λ (set-of : ℕ). eqb (bitAnd set-of done) 0) last ∙ made-current (writersOf numbers writers (tupleOf os)) done);
@@ -249,7 +209,7 @@ module _ (ss : List Statement) (numbers writers : List ℕ) (named : Names ss (�
       by r below (inl low) =
           rw (List·getD-append registers (holding os ∷ []) noRegister r low)
           (holding-stays ss done table after r (getD registers r noRegister) (h .holds r low) λ q column is.
-          aside table n (laneCode os 0) (laneCode os 1) (laneCode os 2) (laneCode os 3) (length os) ending q r column is (omega arith) few
+          aside n (laneCode os 0) (laneCode os 1) (laneCode os 2) (laneCode os 3) (length os) ending table q r column is (omega arith) few
           (λ (same : r ≡ n). omega arith))
       by r below (inr high) =
           let this : r ≡ n = omega (arith, length-append registers (holding os ∷ [])) in

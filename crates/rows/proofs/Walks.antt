@@ -13,7 +13,7 @@ use Rattle.basics.specs.Choice.{pick}
 use Rattle.basics.specs.Counting.{count}
 use Rattle.basics.specs.Sets.{nobody, has}
 use Rattle.basics.proofs.Tests.{below-or-not}
-use Rattle.basics.proofs.Counting.{count-same, count-last}
+use Rattle.basics.proofs.Counting.{one-further, count-same, count-last}
 use Rattle.basics.proofs.Sets.{has-nobody, has-lowest, has-half, no-one, not-nobody, has-beyond, set-bound}
 use Rattle.rows.specs.Walk.{behindFirst, highest, walk}
 
@@ -121,24 +121,14 @@ module _ {ℓ} {A : Type ℓ} where
           → walk (suc n) s f a ≡ count k (i + 1) (atMember s f) (atMember s f i a)
       by true e behind further =
           walk-more n s f a i (not-nobody s i e) (lowest-is 64 s i (omega arith) e below)
-          ∙ behind (omega arith) (omega arith) (λ j low. none-there j (below-or-not j i) low) (λ j high. still-none s i j e below (beyond j (omega arith)))
+          ∙ behind (omega arith) (omega arith)
+          (one-further (λ j. has (behindFirst s) j ≡ false) i (λ j low. still-none s i j e below (below j low)) (gone s i i e below refl))
+          (λ j high. still-none s i j e below (beyond j (omega arith)))
           ∙ count-same (atMember (behindFirst s) f) (atMember s f) k (i + 1) (f i a) (λ j x low high. member-same (behindFirst s) s f j x (kept s i j e below (omega arith)))
           ∙ ap (count k (i + 1) (atMember s f)) (sym (member-yes s f i a e))
-        where
-          none-there : (j : ℕ) → (j < i) ⊎ (i ≤ j) → j < i + 1 → has (behindFirst s) j ≡ false
-          none-there j (inl low) h = still-none s i j e below (below j low)
-          none-there j (inr high) h =
-              let this : i ≡ j = omega arith in
-              gone s i j e below this
       by false e behind further =
-          further (omega arith) (omega arith) (λ j low. none-there j (below-or-not j i) low) (λ j high. beyond j (omega arith))
+          further (omega arith) (omega arith) (one-further (λ j. has s j ≡ false) i below e) (λ j high. beyond j (omega arith))
           ∙ ap (count k (i + 1) (atMember s f)) (sym (member-no s f i a e))
-        where
-          none-there : (j : ℕ) → (j < i) ⊎ (i ≤ j) → j < i + 1 → has s j ≡ false
-          none-there j (inl low) h = below j low
-          none-there j (inr high) h =
-              let this : j ≡ i = omega arith in
-              ap (has s) this ∙ e
 
   -- a walk over a set that has nobody from n on is a count to n with a test
   pub walk-counts : (n s : ℕ) (f : ℕ → A → A) (a : A) → n ≤ 64 → ((j : ℕ) → n ≤ j → has s j ≡ false)

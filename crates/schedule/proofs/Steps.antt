@@ -1,6 +1,6 @@
 -- "Schedule": one step over the tables is one step of the schedule, and so the words in the order are those of the scheduled units.
 use mathlib.Core.Path.{_≡_, refl, sym, ap, subst, _∙_}
-use mathlib.Core.Logic.{_⊎_, inl, inr}
+use mathlib.Core.Logic.{inl}
 use mathlib.Core.Bool.{Bool, true, false, false≢true}
 use mathlib.Core.Option.{Option, none, some}
 use mathlib.Core.List.{List, [], _∷_, _++_, append-nil}
@@ -16,7 +16,7 @@ use Rattle.meaning.specs.declared.Statement.{Statement}
 use Rattle.meaning.specs.Schedule.{lowest, isPack, isReady, lowestUnit, without, singles, withUnit, scheduleFrom, schedule}
 use Rattle.theorems.specs.Units.{Every, occurs, Fits, Units}
 use Rattle.theorems.proofs.Occurs.{every-weaker}
-use Rattle.theorems.proofs.Units.{fits-filled, units-size}
+use Rattle.theorems.proofs.Units.{fits-sized, fits-filled, units-size}
 use Rattle.theorems.proofs.Waiting.{In, sums, sums-append, sums-in, every-in, every-without, lowest-in, Finds, finds}
 use Rattle.theorems.proofs.Schedule.{Waits as Partition, filled, at-most-once, taken as sum-taken, left-waiting, dissolved-waits, all-wait}
 use Rattle.reach.specs.Tied.{Rowed}
@@ -74,14 +74,6 @@ module _ (ss : List Statement) (direct reached : List ℕ) (rowed : Rowed ss dir
     room : s .size + sums length units ≤ length (s .order)
     table-room : 64 ≤ length (s .table)
     needs-room : 64 ≤ length (s .needs)
-
-  short : (unit : List ℕ) → Fits ss unit → length unit ≤ 4
-  short unit fits = either (fits .lanes)
-    where
-      either : (length unit ≡ 1) ⊎ ((length unit ≡ 2) ⊎ (length unit ≡ 4)) → length unit ≤ 4
-      either (inl e) = omega arith
-      either (inr (inl e)) = omega arith
-      either (inr (inr e)) = omega arith
 
   in-word : (unit : List ℕ) → Fits ss unit → Every (λ s. s < 64) unit
   in-word unit fits = every-weaker (λ s h. omega (arith, small, h)) unit (fits .in-range)
@@ -159,7 +151,7 @@ module _ (ss : List Statement) (direct reached : List ℕ) (rowed : Rowed ss dir
         → inLanes f (getD (s .table) (lowest pack) 0) a ≡ each f pack a
     lanes-met f absent pack there a =
         ap (λ lanes. f (lane lanes 3) (f (lane lanes 2) (f (lane lanes 1) (f (lane lanes 0) a)))) (lanes-here pack there)
-        ∙ lanes-each f absent pack (short pack (fits pack there)) a
+        ∙ lanes-each f absent pack (fits-sized ss pack (fits pack there) .1) a
 
     dissolved-follows : (pack : List ℕ) → In pack units → Follows (singles pack ++ without pack units) done (dissolved direct (lowest pack) s)
     dissolved-follows pack there =
@@ -200,7 +192,7 @@ module _ (ss : List Statement) (direct reached : List ℕ) (rowed : Rowed ss dir
         waiting-met =
             ap (λ lanes. withSingle (lane lanes 3) (withSingle (lane lanes 2) (withSingle (lane lanes 1) (withSingle (lane lanes 0) (s .waiting)))))
             (lanes-here pack there)
-            ∙ singles-with pack (s .waiting) (short pack known) (in-word pack known)
+            ∙ singles-with pack (s .waiting) (fits-sized ss pack known .1) (in-word pack known)
 
         others : (unit : List ℕ) → In unit (without pack units) → occurs (lowest unit) pack ≡ 0
         others unit left =

@@ -1,19 +1,19 @@
 -- One unit is taken: it waits no longer, its statements are scheduled, and its word stands behind the others.
 use mathlib.Core.Path.{_≡_, refl, sym, ap, _∙_}
-use mathlib.Core.Logic.{_⊎_, inl, inr}
+use mathlib.Core.Logic.{inl, inr}
 use mathlib.Core.Bool.{Bool, true, false, _&&_, _||_, not, false≢true, and-true, and-false}
 use mathlib.Core.List.{List, [], _∷_, _++_}
-use Prim.Native.Nat.{ℕ, _+_, _≤_, _<_}
+use Prim.Native.Nat.{ℕ, _+_, _<_}
 use native.Mathlib.Omega.{arith}
 use lib.Dec.{eqb}
 use lib.Bits.{bitXor}
 use lib.ListN.{length, getD, set, length-append, List·getD-append}
-use lib.Seq.{getD-append-seam, getD-set-same, getD-set-other}
+use lib.Seq.{getD-at, getD-set-same, getD-set-other}
 use borrow.Author.Tests.{eqb-true, eqb-false}
 use Rattle.basics.specs.Choice.{pick}
 use Rattle.basics.specs.Lists.{any, keep}
 use Rattle.basics.specs.Sets.{only, has}
-use Rattle.basics.proofs.Tests.{below-or-not}
+use Rattle.basics.proofs.Counting.{one-further}
 use Rattle.basics.proofs.Sets.{has-only, has-differ}
 use Rattle.meaning.specs.Schedule.{lowest, without}
 use Rattle.theorems.proofs.Waiting.{In}
@@ -85,17 +85,11 @@ pub in-order-more : (units : List (List ℕ)) (order : List ℕ) (size : ℕ) (u
 in-order-more units order size unit known room =
     record {
       sized = length-append units (unit ∷ []) ∙ ap (λ (n : ℕ). n + 1) (known .sized);
-      words = λ i h. either i (below-or-not i size) h;
+      words =
+          one-further (λ i. getD (set order size (unitWord unit)) i 0 ≡ unitWord (getD (units ++ unit ∷ []) i [])) size
+          (λ i low.
+          getD-set-other order size i (unitWord unit) 0 (omega arith)
+          ∙ known .words i low
+          ∙ ap unitWord (sym (List·getD-append units (unit ∷ []) [] i (omega (arith, known .sized)))))
+          (getD-set-same order size (unitWord unit) 0 room ∙ ap unitWord (sym (getD-at units unit [] [] size (known .sized))));
     }
-  where
-    either : (i : ℕ) → (i < size) ⊎ (size ≤ i) → i < size + 1 → getD (set order size (unitWord unit)) i 0 ≡ unitWord (getD (units ++ unit ∷ []) i [])
-    either i (inl low) h =
-        getD-set-other order size i (unitWord unit) 0 (λ e. omega arith)
-        ∙ known .words i low
-        ∙ ap unitWord (sym (List·getD-append units (unit ∷ []) [] i (omega (arith, known .sized))))
-    either i (inr high) h =
-        let here : i ≡ size = omega arith in
-        let last : i ≡ length units = omega (arith, known .sized) in
-        ap (λ (j : ℕ). getD (set order size (unitWord unit)) j 0) here
-        ∙ getD-set-same order size (unitWord unit) 0 room
-        ∙ ap unitWord (sym (ap (λ (j : ℕ). getD (units ++ unit ∷ []) j []) last ∙ getD-append-seam units unit [] []))

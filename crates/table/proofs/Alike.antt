@@ -25,6 +25,7 @@ use Rattle.meaning.specs.Calls.{blockWritten, writeBlockCall}
 use Rattle.theorems.proofs.Readable.{counts-fit}
 use Rattle.table.specs.Said.{number, placeIn, statementSaidAt, broken, statementSaid, from, blockSaid}
 use Rattle.table.specs.Taken.{byteOf, lengthOf, placeOf, statementAt, lengthIn, statementIn, blockOf}
+use Rattle.table.proofs.Back.{byte-back, length-back}
 
 -- a number fits, or it is taken as the greatest that does
 byte-or-large : (n : ℕ) → (byteOf n ≡ n) ⊎ ((byteOf n ≡ 255) × (255 < n))
@@ -32,14 +33,14 @@ byte-or-large n = either (below-or-not 255 n)
   where
     either : (255 < n) ⊎ (n ≤ 255) → (byteOf n ≡ n) ⊎ ((byteOf n ≡ 255) × (255 < n))
     either (inl large) = inr (rw (lt-leb n 255 large), large)
-    either (inr small) = inl (rw (le-leb n 255 small))
+    either (inr small) = inl (byte-back n small)
 
 length-or-large : (n : ℕ) → (lengthOf n ≡ n) ⊎ ((lengthOf n ≡ 65535) × (65535 < n))
 length-or-large n = either (below-or-not 65535 n)
   where
     either : (65535 < n) ⊎ (n ≤ 65535) → (lengthOf n ≡ n) ⊎ ((lengthOf n ≡ 65535) × (65535 < n))
     either (inl large) = inr (rw (lt-leb n 65535 large), large)
-    either (inr small) = inl (rw (le-leb n 65535 small))
+    either (inr small) = inl (length-back n small)
 
 -- counts
 small-byte : (n : ℕ) → byteOf n ≤ 64 → byteOf n ≡ n
@@ -48,9 +49,6 @@ small-byte n h = by (byte-or-large n)
     by : (byteOf n ≡ n) ⊎ ((byteOf n ≡ 255) × (255 < n)) → byteOf n ≡ n
     by (inl e) = e
     by (inr large) = absurd (omega (arith, large .0))
-
-fitting-byte : (n : ℕ) → n ≤ 64 → byteOf n ≡ n
-fitting-byte n h = rw (le-leb n 255 (omega arith))
 
 module _ (v l a c : ℕ) where
   counts-alike : countsFit (byteOf v) (byteOf l) (byteOf a) (byteOf c) ≡ countsFit v l a c
@@ -68,10 +66,10 @@ module _ (v l a c : ℕ) where
       let h = counts-fit v l a c e in
       sym
       (same
-      (fitting-byte v (omega (arith, h .variables)))
-      (fitting-byte l (omega (arith, h .live, h .variables)))
-      (fitting-byte a (omega (arith, h .arrays)))
-      (fitting-byte c (h .count)))
+      (byte-back v (omega (arith, h .variables)))
+      (byte-back l (omega (arith, h .live, h .variables)))
+      (byte-back a (omega (arith, h .arrays)))
+      (byte-back c (omega (arith, h .count))))
       ∙ e)
     where
       same : byteOf v ≡ v → byteOf l ≡ l → byteOf a ≡ a → byteOf c ≡ c → countsFit v l a c ≡ countsFit (byteOf v) (byteOf l) (byteOf a) (byteOf c)
@@ -86,7 +84,7 @@ length-alike n = by (length-or-large n)
     by (inr large) = ap lengthFits (large .0) ∙ sym (ap (λ (t : Bool). leb 1 n && t) (lt-leb n 256 (omega (arith, large .1))) ∙ and-false (leb 1 n))
 
 length-same : (n : ℕ) → lengthFits n ≡ true → lengthOf n ≡ n
-length-same n e = rw (le-leb n 65535 (omega (arith, leb-true n 256 (and-right (leb 1 n) _ e))))
+length-same n e = length-back n (omega (arith, leb-true n 256 (and-right (leb 1 n) _ e)))
 
 pub lengths-small : (ls : List ℕ) → all lengthFits ls ≡ true → (a : ℕ) → getD ls a 0 ≤ 256
 lengths-small [] e a = omega arith
@@ -282,10 +280,10 @@ module _ (table : List ℕ) where
       ap
       (λ (t : Bool). judged t (byteOf v) (byteOf l) (take (byteOf a) (from (lengthIn table) 8 0)) (take (byteOf c) (from (statementIn table) 64 0)))
       (counts-alike v l a c ∙ passes)
-      ∙ ap (λ (n : ℕ). judged true n (byteOf l) (take (byteOf a) (from (lengthIn table) 8 0)) (take (byteOf c) (from (statementIn table) 64 0))) (fitting-byte v (omega (arith, h .variables)))
-      ∙ ap (λ (n : ℕ). judged true v n (take (byteOf a) (from (lengthIn table) 8 0)) (take (byteOf c) (from (statementIn table) 64 0))) (fitting-byte l (omega (arith, h .live, h .variables)))
-      ∙ ap (λ (n : ℕ). judged true v l (take n (from (lengthIn table) 8 0)) (take (byteOf c) (from (statementIn table) 64 0))) (fitting-byte a (omega (arith, h .arrays)))
-      ∙ ap (λ (n : ℕ). judged true v l (take a (from (lengthIn table) 8 0)) (take n (from (statementIn table) 64 0))) (fitting-byte c (h .count))
+      ∙ ap (λ (n : ℕ). judged true n (byteOf l) (take (byteOf a) (from (lengthIn table) 8 0)) (take (byteOf c) (from (statementIn table) 64 0))) (byte-back v (omega (arith, h .variables)))
+      ∙ ap (λ (n : ℕ). judged true v n (take (byteOf a) (from (lengthIn table) 8 0)) (take (byteOf c) (from (statementIn table) 64 0))) (byte-back l (omega (arith, h .live, h .variables)))
+      ∙ ap (λ (n : ℕ). judged true v l (take n (from (lengthIn table) 8 0)) (take (byteOf c) (from (statementIn table) 64 0))) (byte-back a (omega (arith, h .arrays)))
+      ∙ ap (λ (n : ℕ). judged true v l (take a (from (lengthIn table) 8 0)) (take n (from (statementIn table) 64 0))) (byte-back c (omega (arith, h .count)))
       ∙ lengths-alike v l a c (h .variables) (h .arrays)
       ∙ ap (λ (t : Bool). judged t v l (take a (from lengthSaid 8 0)) (take c (from saidIn 64 0))) (sym passes)
   counts-by v l a c (inr fails) =

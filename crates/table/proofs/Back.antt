@@ -48,10 +48,10 @@ pub record SlotsFit (b : Slots) : Type 0 where
   pub many : length (b .statements) ≡ 64
   pub statements : (i : ℕ) → i < 64 → StatementFits (getD (b .statements) i blank)
 
-byte-back : (n : ℕ) → n ≤ 255 → byteOf n ≡ n
+pub byte-back : (n : ℕ) → n ≤ 255 → byteOf n ≡ n
 byte-back n h = rw (le-leb n 255 h)
 
-length-back : (n : ℕ) → n ≤ 65535 → lengthOf n ≡ n
+pub length-back : (n : ℕ) → n ≤ 65535 → lengthOf n ≡ n
 length-back n h = rw (le-leb n 65535 h)
 
 -- the three numbers of an operand, one by one

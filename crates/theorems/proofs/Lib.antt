@@ -16,6 +16,7 @@ pub mod Occurs
 pub mod Orders
 pub mod Sums
 pub mod Units
+pub mod Independence
 pub mod Strokes
 pub mod Totals
 pub mod Chains

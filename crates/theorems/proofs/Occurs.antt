@@ -3,14 +3,15 @@
 use mathlib.Core.Path.{_≡_, refl, sym, ap, subst, _∙_}
 use mathlib.Core.Logic.{_⊎_, inl, inr}
 use mathlib.Core.Bool.{Bool, true, false}
-use mathlib.Core.List.{List, [], _∷_, _++_}
+use mathlib.Core.List.{List, [], _∷_, _++_, map}
 use Prim.Native.Nat.{ℕ, suc, _+_, _≤_, _<_}
 use native.Mathlib.Omega.{arith}
 use lib.Dec.{eqb}
 use lib.ListN.{length}
 use borrow.Author.Tests.{eqb-true, eqb-false, eq-eqb, ne-eqb}
 use Rattle.basics.specs.Choice.{pick}
-use Rattle.basics.specs.Lists.{flat}
+use Rattle.basics.specs.Lists.{all, flat}
+use Rattle.basics.proofs.Tests.{and-both}
 use Rattle.theorems.specs.Units.{Every, Pairwise, occurs}
 
 module _ {ℓ} {A : Type ℓ} where
@@ -22,6 +23,16 @@ module _ {ℓ} {A : Type ℓ} where
   pub every-append {κ} : (P : A → Type κ) (xs ys : List A) → Every P xs → Every P ys → Every P (xs ++ ys)
   every-append P [] ys e f = f
   every-append P (x ∷ xs) ys e f = (e .0, every-append P xs ys (e .1) f)
+
+  -- a test that passes where it holds
+  pub every-all {κ} : (P : A → Type κ) (test : A → Bool) → ((x : A) → P x → test x ≡ true) → (xs : List A) → Every P xs → all test xs ≡ true
+  every-all P test h [] e = refl
+  every-all P test h (x ∷ xs) e = and-both (test x) _ (h x (e .0)) (every-all P test h xs (e .1))
+
+  pub every-map {κ μ} : {B : Type μ} (P : A → Type κ) (f : A → B) (test : B → Bool) → ((x : A) → P x → test (f x) ≡ true)
+      → (xs : List A) → Every P xs → all test (map f xs) ≡ true
+  every-map P f test h [] e = refl
+  every-map P f test h (x ∷ xs) e = and-both (test (f x)) _ (h x (e .0)) (every-map P f test h xs (e .1))
 
   -- what holds of every two
   pub pairwise-weaker {κ} : {R Q : A → A → Type κ} → ((x y : A) → R x y → Q x y) → (xs : List A) → Pairwise R xs → Pairwise Q xs

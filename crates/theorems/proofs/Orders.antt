@@ -12,6 +12,7 @@ use lib.ListN.{length, drop, drop-of-length-le}
 use lib.Seq.{drop-cons}
 use borrow.Author.Tests.{lt-ltb, eqb-true, eqb-false}
 use Rattle.basics.specs.Choice.{pick}
+use Rattle.basics.specs.Counting.{numbers}
 use Rattle.basics.specs.Lists.{each}
 use Rattle.basics.proofs.Parts.{no-elements}
 use Rattle.basics.proofs.Tests.{below-or-not}
@@ -57,11 +58,7 @@ module _ {κ} {S : Type κ} (step : ℕ → S → S) (Before Free : ℕ → ℕ 
       left : (t : ℕ) → occurs t (remove s xs) ≡ occurs t rest
       left t = omega (arith, same t, occurs-remove s xs there t)
 
--- n numbers from i on, in order: each occurs once, no other does
-abbrev pub numbers : ℕ → ℕ → List ℕ
-numbers zero i = []
-numbers (suc n) i = i ∷ numbers n (i + 1)
-
+-- of n numbers from i on each occurs once, and no other does
 numbers-low : (n i s : ℕ) → s < i → occurs s (numbers n i) ≡ 0
 numbers-low zero i s h = refl
 numbers-low (suc n) i s h = occurs-other s i (numbers n (i + 1)) (λ e. omega arith) ∙ numbers-low n (i + 1) s (omega arith)
@@ -131,8 +128,9 @@ module _ (ss : List Statement) where
   -- a later statement that does not depend on an earlier one may overtake it
   independent-swap : (x s : ℕ) → Ascends (length ss) x s → dependsOn ss s x ≡ false → (m : Memory) → ranAt s (ranAt x m) ≡ ranAt x (ranAt s m)
   independent-swap x s ascends free m =
-      ran-swap (statement ss s) (statement ss x) m
+      ran-swap (statement ss s) (statement ss x)
       (sym (ap₂ (λ (a b : Bool). a && b && conflicts (statement ss s) (statement ss x)) (lt-ltb x s (ascends .0)) (lt-ltb s (length ss) (ascends .1))) ∙ free)
+      m
 
   -- An order in which each statement of the block occurs once, and in which none depends on one that comes behind it, runs as the block does.
   pub order-runs : (order : List ℕ) → Every (λ s. s < length ss) order → ((s : ℕ) → s < length ss → occurs s order ≡ 1)

@@ -69,29 +69,24 @@ pub result-put : (m : Memory) (p : Place) (n : ℕ) (s : Statement) → reads s 
 result-put m p n s e =
     ap₂ (operate (s .operation)) (value-put m p n (s .left) (neither-left _ _ e)) (value-put m p n (s .right) (neither-right (names (s .left) p) _ e))
 
--- Two statements without conflict may change places.
-pub ran-swap : (s t : Statement) (m : Memory) → conflicts s t ≡ false → ran s (ran t m) ≡ ran t (ran s m)
-ran-swap s t m free =
-    ap (put (ran t m) (s .destination)) (result-put m (t .destination) (result m t) s s-blind)
-    ∙ put-swap m (t .destination) (s .destination) (result m t) (result m s) (same-back (t .destination) (s .destination) ∙ differ)
-    ∙ ap (put (ran s m) (t .destination)) (sym (result-put m (s .destination) (result m s) t t-blind))
-  where
-    s-blind : reads s (t .destination) ≡ false
-    s-blind = neither-left _ _ (neither-left _ _ free)
+-- two statements without conflict: neither reads what the other writes, nor writes it
+module _ (s t : Statement) (free : conflicts s t ≡ false) where
+  first-blind : reads s (t .destination) ≡ false
+  first-blind = neither-left _ _ (neither-left _ _ free)
 
-    t-blind : reads t (s .destination) ≡ false
-    t-blind = neither-right (reads s (t .destination)) _ (neither-left _ _ free)
+  pub second-blind : reads t (s .destination) ≡ false
+  second-blind = neither-right (reads s (t .destination)) _ (neither-left _ _ free)
 
-    differ : same (s .destination) (t .destination) ≡ false
-    differ = neither-right (reads s (t .destination) || reads t (s .destination)) _ free
+  pub writes-differ : same (s .destination) (t .destination) ≡ false
+  writes-differ = neither-right (reads s (t .destination) || reads t (s .destination)) _ free
 
--- And a conflict goes both ways.
-pub conflicts-back : (s t : Statement) → conflicts s t ≡ false → conflicts t s ≡ false
-conflicts-back s t free =
-    rw (s-blind, t-blind, same-back (t .destination) (s .destination)) (neither-right (reads s (t .destination) || reads t (s .destination)) _ free)
-  where
-    s-blind : reads s (t .destination) ≡ false
-    s-blind = neither-left _ _ (neither-left _ _ free)
+  -- They may change places.
+  pub ran-swap : (m : Memory) → ran s (ran t m) ≡ ran t (ran s m)
+  ran-swap m =
+      ap (put (ran t m) (s .destination)) (result-put m (t .destination) (result m t) s first-blind)
+      ∙ put-swap m (t .destination) (s .destination) (result m t) (result m s) (same-back (t .destination) (s .destination) ∙ writes-differ)
+      ∙ ap (put (ran s m) (t .destination)) (sym (result-put m (s .destination) (result m s) t second-blind))
 
-    t-blind : reads t (s .destination) ≡ false
-    t-blind = neither-right (reads s (t .destination)) _ (neither-left _ _ free)
+  -- And a conflict goes both ways.
+  pub conflicts-back : conflicts t s ≡ false
+  conflicts-back = rw (first-blind, second-blind, same-back (t .destination) (s .destination)) writes-differ

@@ -12,19 +12,21 @@ use lib.Seq.{getD-append-seam, append-snoc}
 use borrow.Author.Tests.{eqb-true, eq-eqb, lt-ltb, not-true}
 use Rattle.basics.specs.Counting.{count}
 use Rattle.basics.specs.Lists.{any, all, keep, first, each}
-use Rattle.basics.proofs.Tests.{and-left, and-right, and-both, or-right, below-or-not}
+use Rattle.basics.proofs.Tests.{and-left, and-right, and-both}
 use Rattle.basics.proofs.Finding.{keep-yes, keep-no}
-use Rattle.basics.proofs.Counting.{above, count-up}
+use Rattle.basics.proofs.Counting.{one-further, count-up}
 use Rattle.meaning.specs.declared.Place.the-variants.{Variable, Cell}
 use Rattle.meaning.specs.declared.Operand.{Operand}
 use Rattle.meaning.specs.declared.Operand.the-variants.{Nothing, Constant, Held}
 use Rattle.meaning.specs.declared.Statement.{Statement}
-use Rattle.meaning.specs.Block.{statement, same, reads, left, right}
-use Rattle.meaning.specs.Dependence.{dependsOn, direct}
+use Rattle.meaning.specs.Block.{statement, same, left, right}
 use Rattle.meaning.proofs.Paths.{Apart}
 use Rattle.meaning.specs.List.{L, C, G, lanesFit}
 use Rattle.meaning.specs.Emission.{Register, Home, Emitted, emit, isHome, extractFrom, extract, extractOperand, emitSingle, sameOperand, sameTuple, holder, rowStart, constantsOf, hold, next, loadInstruction, beforeLoad, load, fetchTuple, fetchedIn, tupleAt, destinations, fetchRight, rightIn, operationOf, emitOperation, operated, storeTuple, landed, emitPack, emitUnit, nothingEmitted}
-use Rattle.theorems.proofs.Puts.{same-true, same-back}
+use Rattle.theorems.proofs.Puts.{same-true}
+use Rattle.theorems.proofs.Occurs.{every-all, every-map}
+use Rattle.theorems.proofs.Units.{fits-filled}
+use Rattle.theorems.proofs.Independence.{write-apart}
 use Rattle.theorems.proofs.Landing.{landed-packed}
 use Rattle.theorems.specs.Units.{Every, Pairwise, Alike, Fits, Units}
 use Rattle.theorems.specs.Steps.{distinct, fromMemory, hasOperand, Tuple, in-row, constants, gathered, Pack, noRegister, holding, Holds, Reached, start, extracts, loads, single, pack}
@@ -333,36 +335,7 @@ single-step {ss} {units} {e} s below r =
     (operand-away (statement ss s .right) first)
     (operand-step (statement ss s .right) (operand-step (statement ss s .left) r))
 
--- independent statements write different places
-writes-depends : (ss : List Statement) (later earlier : ℕ) → earlier < later → later < length ss
-    → same (statement ss later .destination) (statement ss earlier .destination) ≡ true → dependsOn ss later earlier ≡ true
-writes-depends ss later earlier before below e =
-    and-both (ltb earlier later && ltb later (length ss)) _
-    (and-both (ltb earlier later) _ (lt-ltb earlier later before) (lt-ltb later (length ss) below))
-    (or-right (reads (statement ss later) (statement ss earlier .destination) || reads (statement ss earlier) (statement ss later .destination)) _ e)
-
-write-apart : (ss : List Statement) (s t : ℕ) → Apart ss s t → not (same (statement ss s .destination) (statement ss t .destination)) ≡ true
-write-apart ss s t a = by (same (statement ss s .destination) (statement ss t .destination)) refl
-  where
-    never : same (statement ss s .destination) (statement ss t .destination) ≡ true → (s < t) ⊎ (t ≤ s) → ⊥
-    never e (inl before) =
-        a .no-way-back (direct {later = t} {earlier = s} (writes-depends ss t s before (a .second) (same-back (statement ss t .destination) (statement ss s .destination) ∙ e)))
-    never e (inr behind) = a .no-way (direct {later = s} {earlier = t} (writes-depends ss s t (above behind (a .differ)) (a .first) e))
-
-    by : (answer : Bool) → same (statement ss s .destination) (statement ss t .destination) ≡ answer → not answer ≡ true
-    by false e = refl
-    by true e = absurd (never e (below-or-not s t))
-
 -- from what is known of scheduled units
-every-all : {A : Type 0} (P : A → Type 0) (test : A → Bool) → ((x : A) → P x → test x ≡ true) → (xs : List A) → Every P xs → all test xs ≡ true
-every-all P test h [] e = refl
-every-all P test h (x ∷ xs) e = and-both (test x) _ (h x (e .0)) (every-all P test h xs (e .1))
-
-every-map : {A B : Type 0} (P : A → Type 0) (f : A → B) (test : B → Bool) → ((x : A) → P x → test (f x) ≡ true)
-    → (xs : List A) → Every P xs → all test (map f xs) ≡ true
-every-map P f test h [] e = refl
-every-map P f test h (x ∷ xs) e = and-both (test (f x)) _ (h x (e .0)) (every-map P f test h xs (e .1))
-
 apart-distinct : (ss : List Statement) (members : List ℕ) → Pairwise (Apart ss) members → distinct (map (λ s. statement ss s .destination) members) ≡ true
 apart-distinct ss [] apart = refl
 apart-distinct ss (s ∷ members) apart =
@@ -391,12 +364,7 @@ fits-pack ss s t rest f =
 -- a unit, and one unit after the other
 unit-step : {ss : List Statement} {units : List (List ℕ)} {e : Emitted} (unit : List ℕ) → Fits ss unit → Reached ss 0 units e
     → Reached ss 0 (units ++ unit ∷ []) (emitUnit ss unit e)
-unit-step [] f r = absurd (never (f .lanes))
-  where
-    never : (_≡_ {A = ℕ} 0 1) ⊎ ((_≡_ {A = ℕ} 0 2) ⊎ (_≡_ {A = ℕ} 0 4)) → ⊥
-    never (inl e) = omega arith
-    never (inr (inl e)) = omega arith
-    never (inr (inr e)) = omega arith
+unit-step {ss} [] f r = absurd (omega (arith, fits-filled ss [] f))
 unit-step (s ∷ []) f r = single-step s (f .in-range .0) r
 unit-step {ss} (s ∷ t ∷ rest) f r = pack-step ss (s ∷ t ∷ rest) (fits-pack ss s t rest f) r
 
@@ -416,13 +384,11 @@ pub record Closed (ss : List Statement) (live : ℕ) (units : List (List ℕ)) (
   pub out : (v : ℕ) → v < live → any (isHome v) (e .homes) ≡ false
 
 one-out : (ss : List Statement) (units : List (List ℕ)) (j : ℕ) (e : Emitted) → Closed ss j units e → Closed ss (j + 1) units (extract j e)
-one-out ss units j e c = record { reached = extract-step j (c .reached); out = λ v below. by v (below-or-not v j) below }
-  where
-    by : (v : ℕ) → (v < j) ⊎ (j ≤ v) → v < j + 1 → any (isHome v) (extract j e .homes) ≡ false
-    by v (inl low) below = extract-keeps j v e (c .out v low)
-    by v (inr high) below =
-        let this : v ≡ j = omega arith in
-        rw this (extract-away j e)
+one-out ss units j e c =
+    record {
+      reached = extract-step j (c .reached);
+      out = one-further (λ v. any (isHome v) (extract j e .homes) ≡ false) j (λ v low. extract-keeps j v e (c .out v low)) (extract-away j e);
+    }
 
 pub emission-steps : (ss : List Statement) (live : ℕ) (units : List (List ℕ)) → Units ss units → Closed ss live units (finished ss live units)
 emission-steps ss live units u =

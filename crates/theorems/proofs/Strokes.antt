@@ -1,18 +1,17 @@
 -- Packs at one stroke: reading all lanes and then writing them is running the members one after the other, in any order in which no later
 -- member reads or writes what an earlier one writes.
 use mathlib.Core.Path.{_≡_, refl, sym, ap, ap₂, _∙_}
-use mathlib.Core.Bool.{false, _||_}
+use mathlib.Core.Bool.{false}
 use mathlib.Core.List.{List, [], _∷_, map}
 use Prim.Native.Nat.{ℕ}
 use Rattle.basics.specs.Lists.{each}
-use Rattle.basics.proofs.Tests.{neither-left, neither-right}
 use Rattle.meaning.specs.declared.Place.{Place}
 use Rattle.meaning.specs.declared.Statement.{Statement}
 use Rattle.meaning.specs.Block.{statement, same, reads}
 use Rattle.meaning.specs.Dependence.{conflicts}
 use Rattle.theorems.specs.Memory.{Memory, put, result, putEach, atOneStroke}
 use Rattle.theorems.specs.Units.{Every, Pairwise, occurs}
-use Rattle.theorems.proofs.Puts.{put-swap, result-put}
+use Rattle.theorems.proofs.Puts.{put-swap, result-put, second-blind, writes-differ}
 use Rattle.theorems.proofs.Occurs.{pairwise-weaker}
 use Rattle.theorems.proofs.Orders.{reorder, ranAt}
 
@@ -84,6 +83,6 @@ module _ (ss : List Statement) where
       → (m : Memory) → atOneStroke ss unit m ≡ each (ranAt ss) order m
   stroke-free unit order same-members free m =
       stroke-in-order unit order same-members
-      (pairwise-weaker (λ s t e. neither-right (reads (statement ss s) (writes t)) _ (neither-left _ _ e)) order free)
-      (pairwise-weaker (λ s t e. neither-right (reads (statement ss s) (writes t) || reads (statement ss t) (writes s)) _ e) order free)
+      (pairwise-weaker (λ s t e. second-blind (statement ss s) (statement ss t) e) order free)
+      (pairwise-weaker (λ s t e. writes-differ (statement ss s) (statement ss t) e) order free)
       m

@@ -1,8 +1,9 @@
--- Units that fit: each has a statement, all their statements are in the block, and there are as many of them as the block has.
+-- Units that fit: each has one, two or four statements, all their statements are in the block, and there are as many of them as the block
+-- has.
 use mathlib.Core.Path.{_≡_, refl, sym, _∙_}
 use mathlib.Core.Logic.{_⊎_, inl, inr}
 use mathlib.Core.List.{List, [], _∷_, map}
-use Prim.Native.Nat.{ℕ, zero, suc, _<_}
+use Prim.Native.Nat.{ℕ, zero, suc, _≤_, _<_}
 use native.Mathlib.Omega.{arith}
 use lib.ListN.{length}
 use Rattle.basics.specs.Lists.{sum, flat}
@@ -11,13 +12,17 @@ use Rattle.theorems.specs.Units.{Every, Fits, Units}
 use Rattle.theorems.proofs.Occurs.{every-append}
 use Rattle.theorems.proofs.Sums.{over, any-order}
 
+-- one statement, two or four
+sized : (k : ℕ) → (k ≡ 1) ⊎ ((k ≡ 2) ⊎ (k ≡ 4)) → (0 < k) × (k ≤ 4) × (k ≡ 3 → ⊥)
+sized k (inl e) = omega arith
+sized k (inr (inl e)) = omega arith
+sized k (inr (inr e)) = omega arith
+
+pub fits-sized : (ss : List Statement) (unit : List ℕ) → Fits ss unit → (0 < length unit) × (length unit ≤ 4) × (length unit ≡ 3 → ⊥)
+fits-sized ss unit fits = sized (length unit) (fits .lanes)
+
 pub fits-filled : (ss : List Statement) (unit : List ℕ) → Fits ss unit → 0 < length unit
-fits-filled ss unit fits = either (fits .lanes)
-  where
-    either : (length unit ≡ 1) ⊎ ((length unit ≡ 2) ⊎ (length unit ≡ 4)) → 0 < length unit
-    either (inl e) = omega arith
-    either (inr (inl e)) = omega arith
-    either (inr (inr e)) = omega arith
+fits-filled ss unit fits = fits-sized ss unit fits .0
 
 pub flat-below : (ss : List Statement) (units : List (List ℕ)) → Every (Fits ss) units → Every (λ s. s < length ss) (flat units)
 flat-below ss [] fit = tt

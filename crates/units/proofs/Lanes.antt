@@ -1,7 +1,6 @@
 -- Units by value and as words: what is read off four lanes is what is said of the list of the statements in them, and a word that is read
 -- back gives the unit that was written.
 use mathlib.Core.Path.{_≡_, refl, sym, ap, ap₂, _∙_}
-use mathlib.Core.Logic.{_⊎_, inl, inr}
 use mathlib.Core.Bool.{Bool, true, false}
 use mathlib.Core.List.{List, [], _∷_}
 use Prim.Native.Nat.{ℕ, _+_, _*_, _/_, _≤_, _<_, min}
@@ -16,6 +15,7 @@ use Rattle.basics.proofs.Sets.{join-assoc}
 use Rattle.meaning.specs.declared.Statement.{Statement}
 use Rattle.meaning.specs.Schedule.{lowest, withUnit}
 use Rattle.theorems.specs.Units.{Fits}
+use Rattle.theorems.proofs.Units.{fits-sized}
 use Rattle.units.specs.declared.Unit.{Unit as Lanes}
 use Rattle.units.specs.Words.{unitWord}
 use Rattle.units.specs.Waiting.{neededBy}
@@ -27,22 +27,17 @@ pub data Laned : List ℕ → Type 0 where
   two : {a b : ℕ} → a < 64 → b < 64 → Laned (a ∷ b ∷ [])
   four : {a b c d : ℕ} → a < 64 → b < 64 → c < 64 → d < 64 → Laned (a ∷ b ∷ c ∷ d ∷ [])
 
-sized : (k : ℕ) → (k ≡ 1) ⊎ ((k ≡ 2) ⊎ (k ≡ 4)) → (0 < k) × (k ≤ 4) × (k ≡ 3 → ⊥)
-sized k (inl e) = omega arith
-sized k (inr (inl e)) = omega arith
-sized k (inr (inr e)) = omega arith
-
 -- units that fit are such
 pub fits-laned : (ss : List Statement) (unit : List ℕ) → length ss ≤ 64 → Fits ss unit → Laned unit
-fits-laned ss [] small fits = let size = sized 0 (fits .lanes) in absurd (omega (arith, size .0))
+fits-laned ss [] small fits = let size = fits-sized ss [] fits in absurd (omega (arith, size .0))
 fits-laned ss (a ∷ []) small fits = one {a = a} (omega (arith, fits .in-range .0))
 fits-laned ss (a ∷ b ∷ []) small fits = two {a = a} {b = b} (omega (arith, fits .in-range .0)) (omega (arith, fits .in-range .1 .0))
-fits-laned ss (a ∷ b ∷ c ∷ []) small fits = absurd (sized 3 (fits .lanes) .2 refl)
+fits-laned ss (a ∷ b ∷ c ∷ []) small fits = absurd (fits-sized ss (a ∷ b ∷ c ∷ []) fits .2 refl)
 fits-laned ss (a ∷ b ∷ c ∷ d ∷ []) small fits =
     four {a = a} {b = b} {c = c} {d = d} (omega (arith, fits .in-range .0)) (omega (arith, fits .in-range .1 .0)) (omega (arith, fits .in-range .1 .1 .0))
     (omega (arith, fits .in-range .1 .1 .1 .0))
 fits-laned ss (a ∷ b ∷ c ∷ d ∷ e ∷ rest) small fits =
-    let size = sized (length (a ∷ b ∷ c ∷ d ∷ e ∷ rest)) (fits .lanes) in
+    let size = fits-sized ss (a ∷ b ∷ c ∷ d ∷ e ∷ rest) fits in
     absurd (omega (arith, size .1))
 
 -- the unit of four lanes and a count

@@ -1,0 +1,5 @@
+pub mod Slots
+pub mod Said
+pub mod Records
+pub mod Lines
+pub mod Texts

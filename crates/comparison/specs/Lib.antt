@@ -1,0 +1,4 @@
+pub mod Input
+pub mod Lines
+pub mod Compared
+pub mod Alike
