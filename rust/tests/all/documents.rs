@@ -187,7 +187,7 @@ fn names_stand_in_their_files() {
 #[test]
 fn names_are_of_something() {
     let mut known = BTreeSet::new();
-    for file in files(&at("crates")) {
+    for file in ["crates", "rust/compare/src"].iter().flat_map(|folder| files(&at(folder))) {
         known.extend(file.iter().map(|part| part.to_string_lossy().into_owned()));
         known.insert(file.file_stem().expect("a name").to_string_lossy().into_owned());
         known.extend(read(&file).lines().filter_map(given).map(str::to_string));
