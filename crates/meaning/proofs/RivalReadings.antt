@@ -336,6 +336,14 @@ rivalReadings =
       listCost = 6;
       list = bytesOf 42 0x01_002a_06_050100020000_050101020100_06040201020001_050502020000_06040303020201_050503020200;
     }
+    -- c[0]=a[0]+b[0]; c[1]=a[1]+b[1]; c[2]=a[3]+b[2]; c[3]=a[4]+b[3]
+    -- Emission. Four lanes are neighbours where all of them are: a[0], a[1], a[3], a[4] are gathered.
+    ∷ record {
+      block = bytesOf 57 0x01_0039_00_00_03_04_0005_0004_0004_0a01020200020000020100_0a01020201020001020101_0a01020202020003020102_0a01020203020004020103;
+      blockCost = 16;
+      listCost = 11;
+      list = bytesOf 39 0x01_0027_04_0f030004020000020001020003020004_050101040100_06040201040001_050502040200;
+    }
     -- a[1]=b[0]*v0; a[0]=v0*b[0]
     -- Emission. A register holds exactly this tuple: not the same operands in another order.
     ∷ record {
@@ -399,6 +407,14 @@ rivalReadings =
       blockCost = 7;
       listCost = 6;
       list = bytesOf 36 0x01_0024_06_050100020000_050101020100_06040203020001_0407020001_0407020100_020002;
+    }
+    -- v0=a[0]+b[0]; v1=a[1]+b[1]; c[0]=v1+d[0]; c[1]=v0+d[1]
+    -- Emission. X in operand order: of G lane 0 first, here v1.
+    ∷ record {
+      block = bytesOf 55 0x01_0037_02_00_04_04_0002_0002_0002_0002_09010100020000020100_09010101020001020101_09010202000101020300_09010202010100020301;
+      blockCost = 12;
+      listCost = 10;
+      list = bytesOf 60 0x01_003c_09_050100020000_050101020100_06040201020001_0407020101_0407020000_0703030201010100_050104020300_06040501020304_050505020200;
     }
     -- v0=a[0]; v1=a[1]; v2=v0+v0
     -- Emission. One X for a value that is named twice.
