@@ -23,7 +23,8 @@ fn lines_are_as_the_readme_has_them() {
     let blocks = std::fs::read_dir(SAMPLES)
         .expect("the folder")
         .filter(|entry| {
-            entry.as_ref().expect("an entry").file_name().to_string_lossy().ends_with(".bin")
+            let path = entry.as_ref().expect("an entry").path();
+            path.extension().is_some_and(|extension| extension == "bin")
         })
         .count();
     assert_eq!(count, blocks);
