@@ -1,6 +1,6 @@
 -- The two sections as they are printed, for a block of two statements and for one that has none.
 use mathlib.Core.Path.{_≡_, refl}
-use mathlib.Core.List.{List, [], _∷_, _++_}
+use mathlib.Core.List.{[], _∷_}
 use Rattle.meaning.specs.declared.Place.the-variants.{Variable, Cell}
 use Rattle.meaning.specs.declared.Operand.the-variants.{Nothing, Constant, Held}
 use Rattle.meaning.specs.Block.{Block}
