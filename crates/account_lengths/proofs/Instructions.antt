@@ -14,7 +14,7 @@ use Rattle.meaning.specs.declared.Statement.{Statement}
 use Rattle.meaning.specs.Block.{statement as statementAt}
 use Rattle.meaning.specs.List.{Instruction, S, L, C, G, O, W, D, X, lanesFit, instructionPrice}
 use Rattle.theorems.proofs.Instructions.{instructionFits}
-use Rattle.theorems.proofs.Allowed.{lanes-two}
+use Rattle.meaning.proofs.Bounds.{lanes-two}
 use Rattle.text.specs.Text.{words, decimal}
 use Rattle.named.specs.Names.{operandText}
 use Rattle.account_list.specs.Instructions.{registerText, laneText, secondText, spaced, rowText, instructionText, pricedLine, instructionLine, noLine, instructionLines}
