@@ -3,4 +3,3 @@ pub mod Said
 pub mod Records
 pub mod Lines
 pub mod Texts
-pub mod Lengths
