@@ -42,8 +42,8 @@ PHASES = {
     "card": ("Running a list", "lists", ["run_list", "card"]),
     "calls": ("The five calls", "calls", ["nephinor", "table"]),
     "beside": ("Side by side", "calls", ["beside"]),
-    "course": ("How it came about", "calls", ["course", "account_statements", "account_units", "account_list"]),
-    "program": ("The programs", "calls", ["list", "comparison", "ends", "answers", "named", "text"]),
+    "course": ("How it came about", "calls", ["account", "course", "account_statements", "account_units", "account_list"]),
+    "program": ("The programs", "calls", ["list", "compare", "explain", "comparison", "ends", "answers", "named", "text"]),
 }
 
 

@@ -11,7 +11,7 @@ use lib.ListN.{length, take, drop, drop-of-length-le}
 use lib.Seq.{take-all}
 use Rattle.basics.specs.Lists.{all, sum}
 use Rattle.basics.proofs.Tests.{below-or-not}
-use Rattle.basics.proofs.Lists.{take-rest}
+use Rattle.basics.proofs.Lists.{take-rest, take-least}
 use Rattle.basics.proofs.Parts.{all-first, all-others}
 use Rattle.meaning.specs.declared.Block.{Block as Slots}
 use Rattle.meaning.specs.Numbers.{Answer, refused, done}
@@ -20,7 +20,6 @@ use Rattle.meaning.specs.Format.{readBlock, lengthFits}
 use Rattle.meaning.specs.Machine.{cellAt}
 use Rattle.meaning.specs.Calls.{blockRead, readBlockCall}
 use Rattle.theorems.proofs.Readable.{refused-number, done-readable, declared-in-memory, length-fits}
-use Rattle.beside.proofs.Comparison.{take-least}
 use Rattle.memory.specs.Lent.{lent}
 use Rattle.comparison.specs.Input.{stated, blockIn, contentsIn, numbersIn}
 use Rattle.comparison.specs.Lines.{comparedOn}

@@ -4,8 +4,8 @@ use mathlib.Core.List.{List}
 use Prim.Native.Nat.{ℕ, min}
 use native.Mathlib.Omega.{arith}
 use lib.ListN.{length, take, length-take}
+use Rattle.basics.proofs.Lists.{take-least}
 use Rattle.basics.proofs.Mapped.{unmapped}
-use Rattle.run_block.proofs.Sized.{within-slots}
 use Rattle.text.proofs.Putting.{reads-as}
 use Rattle.comparison.specs.Compared.{sizedText}
 use Rattle.comparison.proofs.Parts.{within-limits}
@@ -34,7 +34,7 @@ put-sized-requires c κs =
     let slots : length (start .args .block .lengths) ≡ 8 = search (needs, unmapped) in
     let arrays : c .before .before .at-most .result ≡ min (start .args .block .arrays) (length (start .args .block .lengths)) = omega (arith, slots, c .before .before .at-most .ensures) in
     let same : take (c .before .before .at-most .result) (start .args .block .lengths) ≡ take (start .args .block .arrays) (start .args .block .lengths) =
-    ap (λ (n : ℕ). take n (start .args .block .lengths)) arrays ∙ within-slots (start .args .block .lengths) (start .args .block .arrays) in
+    ap (λ (n : ℕ). take n (start .args .block .lengths)) arrays ∙ take-least (start .args .block .arrays) (start .args .block .lengths) in
     within-limits (start .args .bytes .now) (start .args .block) (take (c .before .before .at-most .result) (start .args .block .lengths)) (start .pre) same
 
 same-length : tie.Need-same-length
@@ -46,7 +46,7 @@ returns c =
     let slots : length (start .args .block .lengths) ≡ 8 = search (needs, unmapped) in
     let arrays : c .before .before .before .before .before .at-most .result ≡ min (start .args .block .arrays) (length (start .args .block .lengths)) = omega (arith, slots, c .before .before .before .before .before .at-most .ensures) in
     let same : take (c .before .before .before .before .before .at-most .result) (start .args .block .lengths) ≡ take (start .args .block .arrays) (start .args .block .lengths) =
-    ap (λ (n : ℕ). take n (start .args .block .lengths)) arrays ∙ within-slots (start .args .block .lengths) (start .args .block .arrays) in
+    ap (λ (n : ℕ). take n (start .args .block .lengths)) arrays ∙ take-least (start .args .block .arrays) (start .args .block .lengths) in
     let a = start .args in
     reads-as (c .before .before .put-sized .ensures) (ap (λ (lengths : List ℕ). sizedText (a .bytes .now) lengths (a .block .variables) (a .block .live) (a .rest .now)) same)
 
