@@ -42,7 +42,7 @@ PHASES = {
     "card": ("Running a list", "lists", ["run_list", "card"]),
     "calls": ("The five calls", "calls", ["nephinor", "table"]),
     "beside": ("Side by side", "calls", ["beside"]),
-    "course": ("How it came about", "calls", ["account", "course", "account_statements", "account_units", "account_list"]),
+    "course": ("How it came about", "calls", ["account", "account_lengths", "course", "account_statements", "account_units", "account_list"]),
     "program": ("The programs", "calls", ["list", "compare", "explain", "comparison", "ends", "answers", "named", "text"]),
 }
 
