@@ -12,6 +12,7 @@ use borrow.Author.Tests.{lt-ltb, le-ltb, eqb-true, ne-eqb}
 use Rattle.basics.specs.Lists.{any}
 use Rattle.basics.proofs.Tests.{below-or-not, eqb-back}
 use Rattle.meaning.specs.Pairs.{Pair, pair, isAdmitted, isLeft, partner, chainAlong, chain}
+use Rattle.meaning.specs.Extension.{isThis}
 use Rattle.theorems.specs.Units.{Every, Pairwise}
 use Rattle.theorems.proofs.Chains.{chosen, partner-related}
 use Rattle.reach.specs.Tied.{numberOf}
@@ -32,24 +33,19 @@ left-partner (p ∷ pairs) s = either (eqb (p .left) s) (left-partner pairs s)
     either false later = later
 
 -- (s, t) is a pair where t is the partner of s
-abbrev isThis : Option ℕ → ℕ → Bool
-isThis none t = false
-isThis (some u) t = eqb u t
-
-pair-partner : (pairs : List Pair) (s t : ℕ) → Pairwise (λ p q. p .left ≡ q .left → ⊥) pairs → isAdmitted pairs (pair s t) ≡ isThis (partner pairs s) t
+pair-partner : (pairs : List Pair) (s t : ℕ) → Pairwise (λ p q. p .left ≡ q .left → ⊥) pairs → isAdmitted pairs (pair s t) ≡ isThis t (partner pairs s)
 pair-partner [] s t differ = refl
 pair-partner (p ∷ pairs) s t differ =
     ap (λ (test : Bool). test && eqb t (p .right) || isAdmitted pairs (pair s t)) (eqb-back s (p .left))
     ∙ either (eqb (p .left) s) refl (pair-partner pairs s t (differ .1))
   where
-    either : (test : Bool) → eqb (p .left) s ≡ test → isAdmitted pairs (pair s t) ≡ isThis (partner pairs s) t
-        → test && eqb t (p .right) || isAdmitted pairs (pair s t) ≡ isThis (chosen test p (partner pairs s)) t
+    either : (test : Bool) → eqb (p .left) s ≡ test → isAdmitted pairs (pair s t) ≡ isThis t (partner pairs s)
+        → test && eqb t (p .right) || isAdmitted pairs (pair s t) ≡ isThis t (chosen test p (partner pairs s))
     either true own later =
         let e : s ≡ p .left = sym (eqb-true (p .left) s own) in
         let alone : partner pairs s ≡ none = rw e (no-partner (p .left) pairs (differ .0)) in
-        ap (λ (test : Bool). eqb t (p .right) || test) (later ∙ ap (λ (o : Option ℕ). isThis o t) alone)
+        ap (λ (test : Bool). eqb t (p .right) || test) (later ∙ ap (isThis t) alone)
         ∙ or-false (eqb t (p .right))
-        ∙ eqb-back t (p .right)
     either false other later = later
 
 -- the chain behind its first statement
@@ -120,8 +116,8 @@ module _ (pairs : List Pair) (next : List ℕ) (partners : (s : ℕ) → getD ne
       none-there (inl h) = rw (ne-eqb 64 t (λ f. omega arith)) (and-false (ltb t 64))
       none-there (inr h) = rw (le-ltb t 64 h)
 
-      either : (o : Option ℕ) → partner pairs s ≡ o → ltb s 64 && (ltb t 64 && eqb (numberOf o) t) ≡ isThis o t
+      either : (o : Option ℕ) → partner pairs s ≡ o → ltb s 64 && (ltb t 64 && eqb (numberOf o) t) ≡ isThis t o
       either none e = ap (λ (test : Bool). ltb s 64 && test) (none-there (below-or-not t 64)) ∙ and-false (ltb s 64)
       either (some u) e =
           let here : s < 64 = partner-related (λ l r. l < 64) pairs s u left-below e in
-          rw (lt-ltb s 64 here) (both-below u (right-below s u e))
+          rw (lt-ltb s 64 here) (both-below u (right-below s u e) ∙ eqb-back u t)
