@@ -22,4 +22,5 @@ pub mod random;
 pub mod refusal;
 pub mod schedule;
 pub mod seeding;
+pub mod side_by_side;
 pub mod text;

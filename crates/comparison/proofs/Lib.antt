@@ -5,3 +5,4 @@ pub mod Parts
 pub mod Lengths
 pub mod SameLines
 pub mod NoMark
+pub mod Worked

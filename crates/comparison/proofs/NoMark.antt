@@ -1,13 +1,13 @@
 -- What is shown to a laboratory, for every block that reads and all contents of its size: no line is marked. The text has the end of the
 -- block's run in both columns, says in words that all ends alike, and the list's price is what its instructions cost, and no more than the block's.
-use mathlib.Core.Path.{_≡_, refl, sym, ap, ap₂, _∙_}
+use mathlib.Core.Path.{_≡_, refl, sym, ap, _∙_}
 use mathlib.Core.Bool.{Bool, true, false}
 use mathlib.Core.List.{List}
 use Prim.Native.Nat.{ℕ, zero, suc, _*_, _+_, _≤_, _<_}
 use native.Mathlib.Omega.{arith}
 use borrow.Author.Tests.{eq-eqb, le-ltb}
 use lib.Dec.{leb}
-use lib.ListN.{length, getD, take, drop, length-replicate}
+use lib.ListN.{length, getD, drop, length-append, length-replicate, take-append-drop}
 use Rattle.basics.specs.Choice.{pick}
 use Rattle.basics.specs.Lists.{all, sum}
 use Rattle.basics.proofs.Tests.{and-both}
@@ -20,16 +20,18 @@ use Rattle.meaning.specs.List.{listPrice, listBytes}
 use Rattle.meaning.specs.Choice.{chosenList}
 use Rattle.meaning.specs.Calls.{ListMade, listMade, makeListCall, Ran, ran, sized, runBlockCall, runListCall}
 use Rattle.theorems.proofs.Bytes.{isByte}
-use Rattle.theorems.proofs.Readable.{done-written}
+use Rattle.theorems.proofs.Readable.{done-readable, done-written}
+use Rattle.theorems.proofs.BlockRoundTrip.{block-length}
 use Rattle.theorems.proofs.Demand.{leftIn}
 use Rattle.theorems.proofs.Alike.{Alike, alike}
 use Rattle.beside.specs.Beside.{SideBySide, listRun, sideBySide}
 use Rattle.beside.proofs.Running.{is-run}
 use Rattle.beside.proofs.Shown.{Shown, shown}
 use Rattle.comparison.specs.Input.{stated, blockIn, contentsIn, numbersIn, contents, contentsSize}
-use Rattle.comparison.specs.Lines.{besideText, comparedOn}
+use Rattle.comparison.specs.Lines.{comparedOn}
 use Rattle.comparison.specs.Compared.{room, sizedText, answerText, compared}
 use Rattle.comparison.specs.Alike.{alikeText}
+use Rattle.comparison.proofs.Parts.{few-in-all}
 use Rattle.comparison.proofs.SameLines.{ends-alike}
 
 room-large : 3844 ≤ length room
@@ -138,13 +140,24 @@ in-short input b short read size =
     (ap (answerText (blockIn input) (contentsIn input) (length input)) read
     ∙ rw (eq-eqb (length (contentsIn input)) (contentsSize (b .variables) (b .lengths)) size))
 
-pub no-mark : (input : List ℕ) (b : Block) → all isByte input ≡ true → length input ≤ 9303 → readBlock (blockIn input) ≡ done b
+-- no such input is too long
+short-enough : (input : List ℕ) (b : Block) → all isByte (blockIn input) ≡ true → readBlock (blockIn input) ≡ done b
+    → length (contentsIn input) ≡ contentsSize (b .variables) (b .lengths) → length input ≤ 9303
+short-enough input b are read size =
+    let readable = done-readable (blockIn input) b read in
+    let written : length (blockBytes b) ≡ length (blockIn input) = ap length (done-written (blockIn input) b are read) in
+    let whole : length (blockIn input) + length (contentsIn input) ≡ length input =
+    sym (length-append (blockIn input) (contentsIn input)) ∙ ap length (take-append-drop (stated input) input) in
+    omega (arith, whole, written, block-length b readable, size, few-in-all (b .lengths) (readable .arrays) (readable .lengths), readable .variables)
+
+pub no-mark : (input : List ℕ) (b : Block) → all isByte input ≡ true → readBlock (blockIn input) ≡ done b
     → length (contentsIn input) ≡ contentsSize (b .variables) (b .lengths)
     → (compared input
     ≡ alikeText (b .lengths) (b .live) (startIn b input) (blockPrice (b .statements)) (listPrice (b .statements) (chosenList b)) (runBlock b (startIn b input)))
     × (listPrice (b .statements) (chosenList b) ≤ blockPrice (b .statements))
-no-mark input b are short read size =
-    let bytes-are : all isByte (blockIn input) ≡ true = all-take isByte (stated input) input are in (
-      in-short input b short read size ∙ alike-there (blockIn input) b (startIn b input) bytes-are read (right-size b input),
+no-mark input b are read size =
+    let bytes-are : all isByte (blockIn input) ≡ true = all-take isByte (stated input) input are in
+    let alike-here = alike-there (blockIn input) b (startIn b input) bytes-are read (right-size b input) in (
+      in-short input b (short-enough input b bytes-are read size) read size ∙ alike-here,
       no-dearer (blockIn input) b (startIn b input) bytes-are read (right-size b input),
     )

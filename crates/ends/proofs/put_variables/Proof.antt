@@ -1,7 +1,6 @@
 -- `put_variables` meets its contract: each turn puts the line of the next variable.
 use mathlib.Core.List.{List}
 use Prim.Native.Nat.{ℕ, _-_}
-use native.Mathlib.Omega.{arith}
 use Rattle.meaning.specs.declared.Place.the-variants.{Variable}
 use Rattle.memory.specs.Lent.{lent}
 use Rattle.text.proofs.Putting.{Putting, start, next, finish, reads-as}

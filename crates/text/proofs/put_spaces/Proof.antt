@@ -1,6 +1,5 @@
 -- `put_spaces` meets its contract: each turn puts the next space.
 use Prim.Native.Nat.{_-_}
-use native.Mathlib.Omega.{arith}
 use native.Mathlib.Nat.{sub-zero}
 use mathlib.Core.Path.{ap}
 use Rattle.text.specs.Text.{spaces}

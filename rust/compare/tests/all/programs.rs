@@ -1,9 +1,13 @@
 //! The proved programs. The list program beside the second program: the sample blocks, input that is
 //! empty, and input around 4,096 bytes; what is refused also has its sentence on standard error. And
-//! `compare`: the samples with their stored text, and input around the most bytes.
+//! `compare`: the samples with their stored text, input around the most bytes, and generated blocks with
+//! contents, some of both damaged, beside the second program.
 
 use compare::programs;
-use second::text;
+use second::calls::write_block;
+use second::damage::damage_block;
+use second::generator::{self, random_for};
+use second::{side_by_side, text};
 use std::path::{Path, PathBuf};
 
 fn root() -> PathBuf {
@@ -117,4 +121,37 @@ fn around_the_most_bytes_side_by_side() {
     assert_eq!(compared(&[9; 9303]), format!("refused with 1: {OTHER_VERSION}{listed}"));
     assert_eq!(compared(&[9; 9304]), format!("{too_long}{listed}"));
     assert_eq!(compared(&[1; 1_000_000]), format!("{too_long}{listed}"));
+}
+
+#[test]
+fn generated_side_by_side() {
+    let mut refused = [0; 7];
+    for number in 0..16 {
+        for kind in generator::ALL {
+            let mut random = random_for(kind, number, 13);
+            let block = generator::block(kind, number);
+            let mut input = vec![0; 983];
+            let (_, length) = write_block(&block, &mut input);
+            input.truncate(length);
+            if number % 4 == 1 {
+                damage_block(&mut random, &mut input);
+            }
+            let count = usize::from(block.variables) + block.cell_count();
+            input.extend(random.contents(count).iter().flat_map(|value| value.to_be_bytes()));
+            match number % 8 {
+                2 => input.truncate(input.len().saturating_sub(random.between(1, 3))),
+                3 => input.truncate(random.below(length)),
+                _ => {}
+            }
+            let text = compared(&input);
+            match side_by_side::comparison(&input) {
+                Ok(expected) => assert_eq!(text, expected, "{} {number}", kind.name()),
+                Err(status) => {
+                    refused[usize::from(status)] += 1;
+                    assert!(text.starts_with(&format!("refused with {status}: ")), "{text}");
+                }
+            }
+        }
+    }
+    assert!(refused[1..].iter().all(|&times| times > 0), "{refused:?}");
 }
