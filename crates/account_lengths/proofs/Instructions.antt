@@ -15,9 +15,9 @@ use Rattle.meaning.specs.Block.{statement as statementAt}
 use Rattle.meaning.specs.List.{Instruction, S, L, C, G, O, W, D, X, lanesFit, instructionPrice}
 use Rattle.theorems.proofs.Instructions.{instructionFits}
 use Rattle.meaning.proofs.Bounds.{lanes-two}
-use Rattle.text.specs.Text.{words, decimal}
+use Rattle.text.specs.Text.{words, decimal, noLine}
 use Rattle.named.specs.Names.{operandText}
-use Rattle.account_list.specs.Instructions.{registerText, laneText, secondText, spaced, rowText, instructionText, pricedLine, instructionLine, noLine, instructionLines}
+use Rattle.account_list.specs.Instructions.{registerText, laneText, secondText, spaced, rowText, instructionText, pricedLine, instructionLine, instructionLines}
 use Rattle.account_lengths.proofs.Short.{Short, said, number, _then_, at-most}
 use Rattle.account_lengths.proofs.Names.{place, operand, operation, statement}
 

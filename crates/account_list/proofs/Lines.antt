@@ -27,7 +27,8 @@ use Rattle.instructions.specs.Next.{instructionAt, endAt, behind}
 use Rattle.instructions.proofs.Places.{records-at, records-end}
 use Rattle.lists.specs.Whole.{headerFits}
 use Rattle.lists.proofs.Header.{header-read, header-broken}
-use Rattle.account_list.specs.Instructions.{instructionLine, noLine, instructionLines}
+use Rattle.text.specs.Text.{noLine}
+use Rattle.account_list.specs.Instructions.{instructionLine, instructionLines}
 use Rattle.account_list.specs.Shown.{lineMeant, linesFrom, listText}
 use Rattle.account_list.proofs.Records.{lines-more, lines-end, none-listed, some-listed}
 

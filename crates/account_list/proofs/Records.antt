@@ -12,7 +12,7 @@ use Rattle.basics.specs.Choice.{pick}
 use Rattle.basics.proofs.Counting.{more, none-left}
 use Rattle.meaning.specs.declared.Statement.{Statement}
 use Rattle.instructions.specs.Next.{instructionAt, endAt}
-use Rattle.account_list.specs.Instructions.{noLine}
+use Rattle.text.specs.Text.{noLine}
 use Rattle.account_list.specs.Shown.{lineMeant, linesFrom, listText}
 
 -- where record i stands: the first behind the header

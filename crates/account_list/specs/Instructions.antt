@@ -8,7 +8,7 @@ use Rattle.meaning.specs.declared.Statement.{Statement}
 use Rattle.meaning.specs.Block.{statement}
 use Rattle.meaning.specs.List.{Instruction, S, L, C, G, O, W, D, X, instructionPrice}
 use Rattle.meaning.specs.Card.{row}
-use Rattle.text.specs.Text.{words, decimal}
+use Rattle.text.specs.Text.{words, decimal, noLine}
 use Rattle.named.specs.Names.{placeText, operandText, operationText, statementText}
 
 abbrev pub registerText : ℕ → List ℕ
@@ -50,10 +50,6 @@ pricedLine text price = words "  " ++ text ++ words " (price " ++ decimal price 
 
 abbrev pub instructionLine : List Statement → Instruction → List ℕ
 instructionLine ss i = pricedLine (instructionText ss i) (instructionPrice ss i)
-
--- what stands where a section has no line
-abbrev pub noLine : List ℕ
-noLine = words "  none\n"
 
 -- The section of a list beside the statements of its block.
 unfoldable pub instructionLines : List Statement → List Instruction → List ℕ

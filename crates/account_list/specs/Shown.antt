@@ -14,9 +14,9 @@ use Rattle.instructions.specs.declared.Instruction.{Instruction}
 use Rattle.instructions.specs.declared.Instruction.the-variants.{Broken, S, L, C, G, Copy, O, W, D, X}
 use Rattle.instructions.specs.Next.{instructionAt, endAt}
 use Rattle.rules.specs.Price.{priceMeant}
-use Rattle.text.specs.Text.{words, decimal}
+use Rattle.text.specs.Text.{words, decimal, noLine}
 use Rattle.named.specs.Names.{placeText, operandText, operationText, statementText}
-use Rattle.account_list.specs.Instructions.{registerText, laneText, rowText, instructionText, pricedLine, noLine}
+use Rattle.account_list.specs.Instructions.{registerText, laneText, rowText, instructionText, pricedLine}
 
 -- the number of the statement that S names; 0 where none is named
 abbrev pub numberOf : Instruction → ℕ

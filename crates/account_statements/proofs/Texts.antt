@@ -21,7 +21,7 @@ two =
     }
 
 pub section-texts :
-    (headLine two ≡ words "Block: 4 variables (1 live out), 2 arrays, 2 statements.\n")
+    (headLine two ≡ words "Block: variables 4, live out 1, arrays 2, statements 2.\n")
     × (statementLines (two .statements)
     ≡ words "Statements, with the price of each:\n  0: V0 = A0[0] + 3 (price 2)\n  1: A1[4] = A0[1] (price 3)\n")
     × (statementLines [] ≡ words "Statements, with the price of each:\n  none\n")

@@ -4,14 +4,14 @@ use mathlib.Core.List.{List, [], _∷_, _++_}
 use lib.ListN.{length}
 use Rattle.meaning.specs.declared.Statement.{Statement}
 use Rattle.meaning.specs.Block.{Block, statementPrice}
-use Rattle.text.specs.Text.{words, decimal}
+use Rattle.text.specs.Text.{words, decimal, noLine}
 use Rattle.named.specs.Names.{statementText}
 
 abbrev pub variablesText : ℕ → ℕ → List ℕ
-variablesText variables live = words "Block: " ++ decimal variables ++ words " variables (" ++ decimal live ++ words " live out), "
+variablesText variables live = words "Block: variables " ++ decimal variables ++ words ", live out " ++ decimal live ++ words ", arrays "
 
 abbrev pub countsText : ℕ → ℕ → List ℕ
-countsText arrays statements = decimal arrays ++ words " arrays, " ++ decimal statements ++ words " statements.\n"
+countsText arrays statements = decimal arrays ++ words ", statements " ++ decimal statements ++ words ".\n"
 
 unfoldable pub headLine : Block → List ℕ
 headLine b = variablesText (b .variables) (b .live) ++ countsText (length (b .lengths)) (length (b .statements))
@@ -27,7 +27,7 @@ numberedLines number [] = []
 numberedLines number (s ∷ ss) = statementLine number s ++ numberedLines (number + 1) ss
 
 abbrev pub linesOrNone : List Statement → List ℕ
-linesOrNone [] = words "  none\n"
+linesOrNone [] = noLine
 linesOrNone (s ∷ ss) = numberedLines 0 (s ∷ ss)
 
 unfoldable pub statementLines : List Statement → List ℕ

@@ -11,11 +11,11 @@ use meaning::Statement;
 fn put_variables(out: &mut [u8], at: usize, variables: u8, live: u8) -> usize
     ensures { λ r. ⌜ Puts (variablesText variables live) (now (out .entry)) at (now (out .exit)) r ⌝ }
 {
-    let behind_head = text::put_words(out, at, b"Block: ");
+    let behind_head = text::put_words(out, at, b"Block: variables ");
     let behind_variables = text::put_decimal(out, behind_head, variables as u64);
-    let behind_words = text::put_words(out, behind_variables, b" variables (");
+    let behind_words = text::put_words(out, behind_variables, b", live out ");
     let behind_live = text::put_decimal(out, behind_words, live as u64);
-    text::put_words(out, behind_live, b" live out), ")
+    text::put_words(out, behind_live, b", arrays ")
 }
 
 // The arrays and statements that are declared: of each no more than there are slots.
@@ -24,10 +24,10 @@ fn put_counts(out: &mut [u8], at: usize, arrays: u8, count: u8) -> usize
 {
     let declared = run_block::at_most(arrays, 8);
     let behind_arrays = text::put_decimal(out, at, declared as u64);
-    let behind_words = text::put_words(out, behind_arrays, b" arrays, ");
+    let behind_words = text::put_words(out, behind_arrays, b", statements ");
     let statements = run_block::at_most(count, 64);
     let behind_statements = text::put_decimal(out, behind_words, statements as u64);
-    text::put_words(out, behind_statements, b" statements.\n")
+    text::put_words(out, behind_statements, b".\n")
 }
 
 pub fn put_head(out: &mut [u8], at: usize, block: Block) -> usize

@@ -12,7 +12,8 @@ use Rattle.basics.specs.Choice.{pick}
 use Rattle.basics.proofs.Counting.{more, none-left}
 use Rattle.text.specs.Puts.{behindText, Puts}
 use Rattle.text.proofs.Putting.{Putting, start, next, finish, behind-none, sets-past, reads-as, both}
-use Rattle.account_units.specs.Lines.{eachFrom, noLine, orNone, section}
+use Rattle.text.specs.Text.{noLine}
+use Rattle.account_units.specs.Lines.{eachFrom, orNone, section}
 
 -- what is said at number i and behind it, and when no number is left
 each-more : (said : ℕ → List ℕ) (n i : ℕ) → i < n → eachFrom (n - i) i said ≡ said i ++ eachFrom (n - (i + 1)) (i + 1) said

@@ -2,7 +2,7 @@
 use Prim.Native.Nat.{ℕ, zero, suc, _+_}
 use mathlib.Core.List.{List, [], _∷_, _++_, map}
 use Rattle.basics.specs.Lists.{flat}
-use Rattle.text.specs.Text.{words, decimal}
+use Rattle.text.specs.Text.{words, decimal, noLine}
 
 abbrev pub numberText : ℕ → List ℕ
 numberText n = words " " ++ decimal n
@@ -20,9 +20,6 @@ eachFrom zero i said = []
 eachFrom (suc k) i said = said i ++ eachFrom k (i + 1) said
 
 -- lines, or the line that says that there is none
-abbrev pub noLine : List ℕ
-noLine = words "  none\n"
-
 abbrev pub orNone : List ℕ → List ℕ
 orNone [] = noLine
 orNone (byte ∷ bytes) = byte ∷ bytes

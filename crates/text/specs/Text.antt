@@ -41,3 +41,7 @@ spaces n = replicate n 32
 -- a number in decimal at the right end of a column, or whole where the column is too narrow
 unfoldable pub column : ℕ → ℕ → List ℕ
 column width n = spaces (width - length (decimal n)) ++ decimal n
+
+-- the one line of a section that has nothing to say
+abbrev pub noLine : List ℕ
+noLine = words "  none\n"

@@ -5,7 +5,7 @@ use mathlib.Core.List.{[]}
 use borrow.Author.Tests.{eq-eqb, ne-eqb}
 use Rattle.basics.specs.Choice.{pick}
 use Rattle.text.proofs.Putting.{nothing, reads-as}
-use Rattle.account_units.specs.Lines.{noLine}
+use Rattle.text.specs.Text.{noLine}
 use borrow.Author.Needs.{needs}
 use Rattle.account_units.proofs.numbers.put_none.Statement.{statement}
 use Rattle.account_units.proofs.numbers.put_none.Tie as tie
