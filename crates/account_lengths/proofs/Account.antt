@@ -77,7 +77,7 @@ module _ (bytes : List ℕ) (are : all isByte bytes ≡ true) (b : Block) (read 
       then instructions ss (chosenList b) (fits .count) (fits .fit)
       then sums (blockPrice ss) (listPrice ss (chosenList b))
 
-  block : Short (blockTold b) 58689
+  block : Short (blockTold b) 58688
   unfolding blockTold
   block =
       head b
@@ -85,10 +85,10 @@ module _ (bytes : List ℕ) (are : all isByte bytes ≡ true) (b : Block) (read 
       then (pairing then packing then choice (blockPrice ss) (listPrice ss (packedList b)))
       then answer
 
-pub account : (bytes : List ℕ) → all isByte bytes ≡ true → Short (explained bytes) 58689
+pub account : (bytes : List ℕ) → all isByte bytes ≡ true → Short (explained bytes) 58688
 unfolding explained
 account bytes are = by (readBlock bytes) refl
   where
-    by : (a : Answer Block) → readBlock bytes ≡ a → Short (told a) 58689
-    by (refused n) e = at-most 58689 (counted (refusal n) (length-refusal n)) (omega arith)
+    by : (a : Answer Block) → readBlock bytes ≡ a → Short (told a) 58688
+    by (refused n) e = at-most 58688 (counted (refusal n) (length-refusal n)) (omega arith)
     by (done b) e = block bytes are b e

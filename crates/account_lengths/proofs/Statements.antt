@@ -10,7 +10,7 @@ use Rattle.account_statements.specs.Statements.{headLine, statementLine, number
 use Rattle.account_lengths.proofs.Short.{Short, said, number, _then_, at-most}
 use Rattle.account_lengths.proofs.Names.{statement}
 
-pub head : (b : Block) → Short (headLine b) 133
+pub head : (b : Block) → Short (headLine b) 132
 unfolding headLine
 head b =
     (said (words "Block: variables ") then number (b .variables) then said (words ", live out ") then number (b .live) then said (words ", arrays "))

@@ -3,8 +3,9 @@
 ghost use mathlib.Core.List.{[]};
 ghost use lib.Dec.{eqb};
 ghost use Rattle.basics.specs.Choice.{pick};
+ghost use Rattle.text.specs.Text.{noLine};
 ghost use Rattle.text.specs.Puts.{Puts};
-ghost use Rattle.account_units.specs.Lines.{numberText, numbersText, numbersLine, noLine};
+ghost use Rattle.account_units.specs.Lines.{numberText, numbersText, numbersLine};
 ghost use Rattle.account_units.specs.InTables.{unitNumbers};
 use units::Unit;
 
