@@ -6,6 +6,7 @@ pub mod Bounds
 pub mod Computes
 pub mod Making
 pub mod WorkedBlocks
+pub mod RivalEmissions
 pub mod RivalReadings
 pub mod Calling
 pub mod Refusals
