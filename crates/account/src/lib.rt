@@ -1,5 +1,7 @@
 // The account of a block: how its list comes about, as text for the people who read it.
 
+#![tactic(auto)]
+
 ghost use Rattle.std.specs.Prelude.{◌≡◌, ◌≤◌, length, take};
 ghost use Rattle.meaning.specs.Numbers.{done};
 ghost use Rattle.meaning.specs.Block.{declared};

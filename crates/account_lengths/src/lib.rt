@@ -1,1 +1,3 @@
 // How long each section of a block's account is at most. The laws are in proofs/; there is no code here.
+
+#![tactic(auto)]

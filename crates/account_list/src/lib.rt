@@ -1,5 +1,7 @@
 // The instructions of a list as text, a line each, with the price of each.
 
+#![tactic(auto)]
+
 mod instruction;
 mod lanes;
 mod section;

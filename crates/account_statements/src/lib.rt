@@ -1,6 +1,8 @@
 // The first two sections of a block's account: what the block declares, and its statements, each with
 // its number and its price.
 
+#![tactic(auto)]
+
 ghost use Rattle.std.specs.Prelude.{min};
 ghost use Rattle.meaning.specs.Block.{declared};
 ghost use Rattle.text.specs.Puts.{Puts};

@@ -1,6 +1,8 @@
 // What the phases did with the statements of a block, as text: the admitted pairs, the chains, the
 // packs, the schedule and the dissolved packs, a section each.
 
+#![tactic(auto)]
+
 mod chains;
 mod numbers;
 mod packs;

@@ -1,6 +1,8 @@
 // What the list program answers, as text: the lines of standard output, and the sentence of standard
 // error.
 
+#![tactic(auto)]
+
 mod lines;
 mod sentences;
 

@@ -1,6 +1,8 @@
 // A block and the list made for it, side by side on two copies of the contents: the comparison that is shown
 // to a laboratory. That both end alike and that the list pays what was reported is proved in proofs/Shown.antt.
 
+#![tactic(auto)]
+
 mod same;
 
 ghost use Rattle.std.specs.Prelude.{◌≡◌, eqb, ◌&&◌, get_or};
@@ -13,7 +15,7 @@ use run_block::Ran;
 
 // What comes back: three statuses, the size of the list, the price that was reported of it, what each run
 // paid, and whether both ran and left the same cells and the same live-out variables.
-#[derive(Drop)]
+#[derive(Clone, Copy)]
 pub struct Beside {
     pub made: u8,
     pub block: u8,

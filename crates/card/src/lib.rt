@@ -1,6 +1,8 @@
 // The card at work: one instruction done on the contents lent, with the registers that it reads by
 // value, and the register that it writes handed back.
 
+#![tactic(auto)]
+
 ghost use Rattle.std.specs.Prelude.{◌≡◌, ◌+◌, ◌<◌, true, get_or, set};
 ghost use Rattle.meaning.specs.Machine.{cell_at, fetch as fetched};
 ghost use Rattle.meaning.specs.Card.{operate_lanes};

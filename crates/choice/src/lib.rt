@@ -1,5 +1,7 @@
 // "Choice": S for every statement in block order, and which of the two lists is the answer.
 
+#![tactic(auto)]
+
 ghost use Rattle.std.specs.Prelude.{◌≡◌, ◌≤◌, length};
 ghost use Rattle.meaning.specs.Block.{declared, block_price};
 ghost use Rattle.meaning.specs.Choice.{packed_list, chosen_list};

@@ -1,6 +1,8 @@
 // Operands as numbers, different ones for different operands. Only cells that stand in a row have
 // numbers in a row: variables and constants leave a number out, and so does each array's end.
 
+#![tactic(auto)]
+
 ghost use Rattle.std.specs.Prelude.{◌≡◌, ◌≤◌, ◌-◌, ◌/◌, ◌%◌};
 ghost use Rattle.codes.specs.Codes.{place_code, operand_code, codes_in_row, is_cell_code, is_constant_code, is_variable_code, cell_code};
 

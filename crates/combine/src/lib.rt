@@ -1,5 +1,7 @@
 // "Combination": chains of pairs, cut into units.
 
+#![tactic(auto)]
+
 ghost use Rattle.std.specs.Prelude.{◌≡◌, ◌≤◌, ◌<◌};
 ghost use Rattle.units.specs.Lanes.{lanes_of};
 ghost use Rattle.combine.specs.Cutting.{tables, four_apart, next_unit, last_lane, cut_along, cut_from, combined};

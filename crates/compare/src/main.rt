@@ -1,6 +1,8 @@
 // The program `compare`: it reads a block and starting contents on standard input and prints on standard output
 // what the block and the list made for it do with them, side by side.
 
+#![tactic(auto)]
+
 ghost use Rattle.std.specs.Prelude.{◌≡◌, ◌≤◌, length, take};
 ghost use Rattle.comparison.specs.Compared.{compared};
 

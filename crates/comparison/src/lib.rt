@@ -2,6 +2,8 @@
 // the list made for it are run, and both are printed side by side. That no line is marked is proved in
 // proofs/NoMark.antt.
 
+#![tactic(auto)]
+
 mod input;
 mod refusals;
 mod runs;

@@ -1,6 +1,8 @@
 // How the list of a block comes about: the phases one after the other, with the tables that each
 // leaves for the next lent out, so that they can be shown.
 
+#![tactic(auto)]
+
 ghost use Rattle.std.specs.Prelude.{◌≡◌, ◌≤◌, length, replicate};
 ghost use Rattle.meaning.specs.Block.{declared};
 ghost use Rattle.meaning.specs.List.{list_price};
@@ -13,7 +15,7 @@ use meaning::Block;
 
 // What the tables do not say themselves: how many pairs were admitted and who is right in one, by
 // which numbers units wait, how many units were scheduled.
-#[derive(Drop)]
+#[derive(Clone, Copy)]
 pub struct Found {
     pub pairs: usize,
     pub rights: u64,
@@ -22,7 +24,7 @@ pub struct Found {
 }
 
 // That, and the price of the packed list.
-#[derive(Drop)]
+#[derive(Clone, Copy)]
 pub struct Followed {
     pub found: Found,
     pub price: u64,

@@ -1,5 +1,7 @@
 // "Emission": the instructions of each unit, and the extraction at the end.
 
+#![tactic(auto)]
+
 ghost use Rattle.std.specs.Prelude.{◌≡◌};
 ghost use Rattle.encode.specs.Records.{listing};
 ghost use Rattle.fetch.specs.Fetching.{state};

@@ -4,11 +4,13 @@
 // All of it is total: a byte past the end of `out` is not written, and a size, a count or a price
 // that its type does not hold wraps. A list within the limits does not come near.
 
+#![tactic(auto)]
+
 ghost use Rattle.std.specs.Prelude.{◌≡◌, ◌≤◌, [], ◌∷◌};
 ghost use Rattle.encode.specs.Records.{listing, put_all, record_behind, write_s, write_cells, write_o, write_x, nothing_written, write_header};
 
 // How far the list goes: its bytes, its instructions, and what they cost.
-#[derive(Drop)]
+#[derive(Clone, Copy)]
 pub struct Written {
     pub size: u16,
     pub count: u16,

@@ -1,5 +1,7 @@
 // The bytes of C and G, whose records go by their lanes: two of them, or four.
 
+#![tactic(auto)]
+
 ghost use Rattle.std.specs.Prelude.{◌≡◌, ◌≤◌};
 ghost use Rattle.encode.specs.Records.{listing};
 ghost use Rattle.encode_lanes.specs.Lanes.{put_front, put_constant, put_constants, write_c, code_width, put_operand, put_operands, width_of, cells_of, write_g};

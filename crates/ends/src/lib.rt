@@ -1,5 +1,7 @@
 // The start and both ends of each cell and each live-out variable, a line each.
 
+#![tactic(auto)]
+
 mod line;
 
 ghost use Rattle.std.specs.Prelude.{◌≡◌, true, ◌≤◌, ◌<◌, length};

@@ -1,5 +1,7 @@
 // "Estimate": what a pair would save. The gain and what is taken from it stay apart.
 
+#![tactic(auto)]
+
 ghost use Rattle.std.specs.Prelude.{◌≡◌, ◌≤◌, ◌&&◌};
 ghost use Rattle.meaning.specs.Pairs.{pair};
 ghost use Rattle.codes.specs.Codes.{is_constant_code};

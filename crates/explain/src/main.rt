@@ -1,6 +1,8 @@
 // The explain program: it reads a block on standard input and prints, for people, how its list comes
 // about. A refusal is printed in words in the same place.
 
+#![tactic(auto)]
+
 ghost use Rattle.std.specs.Prelude.{◌≡◌, ◌≤◌, length, take};
 ghost use Rattle.explain.specs.Printed.{printed};
 

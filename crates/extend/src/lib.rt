@@ -1,6 +1,8 @@
 // "Extension": from admitted pairs to those that define what they read, and to those that read what
 // they define.
 
+#![tactic(auto)]
+
 ghost use Rattle.std.specs.Prelude.{◌≡◌, [], ◌+◌, ◌≤◌, ◌<◌};
 ghost use Rattle.meaning.specs.Pairs.{pair};
 ghost use Rattle.pairs.specs.Admission.{tables};
@@ -62,7 +64,7 @@ fn use_to_definition(
 }
 
 // The best readers so far; none have been found while `left` is NONE.
-#[derive(Drop)]
+#[derive(Clone, Copy)]
 struct Best {
     left: usize,
     right: usize,

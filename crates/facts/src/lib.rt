@@ -6,6 +6,8 @@
 // of rows by place stay small. 0 is the number of what is no place, and of a place that the block
 // does not name.
 
+#![tactic(auto)]
+
 ghost use Rattle.std.specs.Prelude.{◌≡◌, ◌+◌, ◌≤◌, ◌<◌, get_or};
 ghost use Rattle.facts.specs.Facts.{fact_at, state_facts, stated_facts};
 ghost use Rattle.facts.specs.Places.{named_tables, name_place, name_places, naming as namingThis};

@@ -1,5 +1,7 @@
 // "A pack fetches": a current register that holds the tuple, else L, C or G.
 
+#![tactic(auto)]
+
 ghost use Rattle.std.specs.Prelude.{◌≡◌, ◌≤◌};
 ghost use Rattle.lanes.specs.Homes.{in_lanes};
 ghost use Rattle.fetch.specs.Fetching.{state, got, tuple_in_row, tuple_constant, load_tuple, fetch_state, fetch_right_state, tuple_in};
@@ -10,7 +12,7 @@ use units::Unit;
 
 // What has been emitted so far: the bytes, how many registers are in use, and the statements whose
 // writes are done.
-#[derive(Drop)]
+#[derive(Clone, Copy)]
 pub struct Emitted {
     pub written: Written,
     pub registers: u8,
@@ -66,7 +68,7 @@ fn load(out: &mut [u8], homes: &mut [u16], w: Written, r: u8, tuple: Tuple) -> W
 }
 
 // What is emitted after a fetch, and the register that has the tuple.
-#[derive(Drop)]
+#[derive(Clone, Copy)]
 pub struct Fetched {
     pub emitted: Emitted,
     pub register: u8,

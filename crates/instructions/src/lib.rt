@@ -1,5 +1,7 @@
 // From a record's bytes to its instruction, none where they are at fault (8).
 
+#![tactic(auto)]
+
 ghost use Rattle.std.specs.Prelude.{◌≡◌, ◌+◌, ◌≤◌, length, get_or, take, [], ◌∷◌, map};
 ghost use Rattle.basics.specs.Lists.{all, sum};
 ghost use Rattle.meaning.specs.Format.{number, operand_width, is_operand};
@@ -11,7 +13,7 @@ use meaning::Operand;
 
 // An instruction, its fields in the document's order. A constant or an operand past the lanes is
 // zero or nothing. A copy in O has no rb and stands by itself.
-#[derive(Drop)]
+#[derive(Clone, Copy)]
 pub enum Instruction {
     Broken,
     S {
@@ -71,7 +73,7 @@ pub enum Instruction {
 }
 
 // A register of the machine: its lanes, how many of them it has, and whether it is written.
-#[derive(Drop)]
+#[derive(Clone, Copy)]
 pub struct Register {
     pub lanes: [u32; 4],
     pub count: u8,
@@ -368,7 +370,7 @@ pub fn read_instruction(bytes: &[u8]) -> Instruction
 
 // The instruction of the record that stands at a place of a list's bytes, and where the next record
 // stands.
-#[derive(Drop)]
+#[derive(Clone, Copy)]
 pub struct Next {
     pub instruction: Instruction,
     pub end: usize,

@@ -3,6 +3,8 @@
 // `homes` has for each variable, by half its code, one more than four times its register plus its
 // lane, or 0 where it is in memory.
 
+#![tactic(auto)]
+
 ghost use Rattle.std.specs.Prelude.{◌≡◌, ◌/◌, set as replaced};
 ghost use Rattle.lanes.specs.Homes.{in_lanes, home_at, set_home, land_tuple, extract_code, extract_tuple, extract_live};
 

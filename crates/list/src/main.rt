@@ -1,6 +1,8 @@
 // The list program: it reads a block on standard input and prints its list on standard output. What is
 // wrong with a block that is refused is said on standard error.
 
+#![tactic(auto)]
+
 ghost use Rattle.std.specs.Prelude.{◌≡◌, ◌≤◌, length, take};
 ghost use Rattle.answers.specs.Lines.{made_of, printed};
 
@@ -8,7 +10,7 @@ use libc::{STDERR_FILENO, STDIN_FILENO, STDOUT_FILENO};
 use maker::Made;
 
 // The status, and how many bytes of text there are.
-#[derive(Drop)]
+#[derive(Clone, Copy)]
 struct Printed {
     status: u8,
     size: usize,

@@ -1,6 +1,8 @@
 // What is asked of a whole list: the bytes at fault (8), and what it names against the rules beside its
 // block (9).
 
+#![tactic(auto)]
+
 ghost use Rattle.std.specs.Prelude.{◌≡◌, [], drop};
 ghost use Rattle.meaning.specs.Block.{declared};
 ghost use Rattle.meaning.specs.List.{read_records, read_list};

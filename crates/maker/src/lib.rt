@@ -1,5 +1,7 @@
 // Making a list: the phases one after the other, the choice, and the answer in the lent room.
 
+#![tactic(auto)]
+
 ghost use Rattle.std.specs.Prelude.{◌≡◌, ◌++◌, ◌≤◌, length, take, drop, replicate};
 ghost use Rattle.meaning.specs.Numbers.{done};
 ghost use Rattle.meaning.specs.Block.{declared};
@@ -14,7 +16,7 @@ use encode::Written;
 use meaning::Block;
 
 // What making a list returns: "list length, block price, list price".
-#[derive(Drop)]
+#[derive(Clone, Copy)]
 pub struct Made {
     pub status: u8,
     pub size: usize,

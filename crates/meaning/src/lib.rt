@@ -1,15 +1,17 @@
 // The types of document 01: places, operands, statements and blocks, as they stand in memory. What
 // they mean is in specs/, one file for each paragraph of the document.
 
+#![tactic(auto)]
+
 // "A place is a variable or a cell (array and fixed index)."
-#[derive(Drop)]
+#[derive(Clone, Copy)]
 pub enum Place {
     Variable(u8),
     Cell(u8, u8),
 }
 
 // "An operand is a constant or a place." Nothing stands where there is none: right of a copy.
-#[derive(Drop)]
+#[derive(Clone, Copy)]
 pub enum Operand {
     Nothing,
     Constant(u32),
@@ -17,7 +19,7 @@ pub enum Operand {
 }
 
 // "A statement has a destination, an operation and one or two operands."
-#[derive(Drop)]
+#[derive(Clone, Copy)]
 pub struct Statement {
     pub operation: u8,
     pub destination: Place,
@@ -26,7 +28,7 @@ pub struct Statement {
 }
 
 // A block in memory. The counts say how many of the slots are declared.
-#[derive(Drop)]
+#[derive(Clone, Copy)]
 pub struct Block {
     pub variables: u8,
     pub live: u8,
@@ -37,7 +39,7 @@ pub struct Block {
 }
 
 // What a statement's record turns out to be.
-#[derive(Drop)]
+#[derive(Clone, Copy)]
 pub enum Record {
     Broken,
     Whole(Statement),

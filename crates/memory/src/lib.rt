@@ -1,6 +1,8 @@
 // The contents that a caller lends, as blocks and lists use them: places fetched and stored, and one
 // statement run. All of it is total: what is outside a slice reads as 0 and takes no store.
 
+#![tactic(auto)]
+
 ghost use Rattle.std.specs.Prelude.{◌≡◌, ◌<◌, get_or, set};
 ghost use Rattle.meaning.specs.Machine.{cell_at, fetch_place, fetch as fetched, store as stored, run_statement};
 ghost use Rattle.memory.specs.Lent.{lent};

@@ -1,5 +1,7 @@
 // Places, operands and statements as text, for the people who read what the programs print.
 
+#![tactic(auto)]
+
 ghost use Rattle.text.specs.Puts.{Puts};
 ghost use Rattle.named.specs.Names.{variable_text, cell_text, place_text, operand_text, operation_text, statement_text};
 

@@ -1,6 +1,8 @@
 // The public calls of document 01, on lent slices and with no demands on the caller. Each promise is one
 // equation between all that comes back with all that was lent, and the definition of the call.
 
+#![tactic(auto)]
+
 mod exports;
 mod packed;
 

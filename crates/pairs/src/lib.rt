@@ -3,6 +3,8 @@
 // `next` has for each statement that is left in a pair the one that is right in it, else NONE;
 // `order` has the statements that are left in one, in order of admission.
 
+#![tactic(auto)]
+
 ghost use Rattle.std.specs.Prelude.{◌≡◌, [], ◌+◌, ◌≤◌, ◌<◌};
 ghost use Rattle.meaning.specs.Pairs.{pair};
 ghost use Rattle.pairs.specs.Admission.{tables, admitted_in, admit_to, leads_to, may_join, may_pair, first_admitted, cells_above, neighbours_of, seed_tables, seeded_tables};
@@ -10,14 +12,14 @@ ghost use Rattle.pairs.specs.Admission.{tables, admitted_in, admit_to, leads_to,
 use meaning::{Block, Statement};
 
 // How many pairs there are, and which statements are right in one.
-#[derive(Drop)]
+#[derive(Clone, Copy)]
 pub struct Admitted {
     pub count: usize,
     pub rights: u64,
 }
 
 // A pair (s, t).
-#[derive(Drop)]
+#[derive(Clone, Copy)]
 pub struct Pair {
     pub left: usize,
     pub right: usize,

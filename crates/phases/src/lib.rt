@@ -1,5 +1,7 @@
 // The phases in front of emission: the tables of a block, then seed, extend, combine and schedule.
 
+#![tactic(auto)]
+
 ghost use Rattle.std.specs.Prelude.{◌≡◌, ◌≤◌, length, replicate};
 ghost use Rattle.meaning.specs.Block.{declared};
 ghost use Rattle.meaning.specs.Choice.{scheduled_units};

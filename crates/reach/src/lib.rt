@@ -1,6 +1,8 @@
 // "Dependence": what each statement depends on, the paths of dependences, and the last definitions
 // of what it reads.
 
+#![tactic(auto)]
+
 ghost use Rattle.std.specs.Prelude.{◌≡◌, ◌≤◌, ◌<◌};
 ghost use Rattle.reach.specs.Rows.{direct_row, direct_rows, reached_from, reached_rows, no_path, last_definition, with_definitions, add_reader, with_readers};
 

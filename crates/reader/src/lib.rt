@@ -1,6 +1,8 @@
 // From lent bytes to a block by value: "short (2), 1, stated length (2), header counts (3), array
 // lengths, then record by record 4 before 5, then bytes left over (4)".
 
+#![tactic(auto)]
+
 ghost use Rattle.std.specs.Prelude.{◌≡◌, ◌+◌, ◌*◌, ◌≤◌, ◌<◌, eqb, length, get_or, take, drop};
 ghost use Rattle.basics.specs.Choice.{pick};
 ghost use Rattle.meaning.specs.declared.Place.TheVariants.{Cell};
@@ -257,14 +259,14 @@ pub fn declares_statement(
 // Reading a block.
 
 // What reading a block returns: zeros beside a refusal.
-#[derive(Drop)]
+#[derive(Clone, Copy)]
 pub struct BlockRead {
     pub status: u8,
     pub block: Block,
 }
 
 // "variables; live-out count; arrays; statements (1 byte each)"
-#[derive(Drop)]
+#[derive(Clone, Copy)]
 struct Header {
     variables: u8,
     live: u8,
@@ -273,21 +275,21 @@ struct Header {
 }
 
 // The array lengths, zeros beside a refusal.
-#[derive(Drop)]
+#[derive(Clone, Copy)]
 struct LengthsRead {
     status: u8,
     lengths: [u16; 8],
 }
 
 // One array's length, or the number of its refusal.
-#[derive(Drop)]
+#[derive(Clone, Copy)]
 enum NextLength {
     Refused(u8),
     Length(u16),
 }
 
 // One statement and where the next record starts, or the number of the refusal.
-#[derive(Drop)]
+#[derive(Clone, Copy)]
 enum NextStatement {
     Refused(u8),
     Read(Statement, usize),

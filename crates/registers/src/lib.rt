@@ -2,13 +2,15 @@
 //
 // The table has columns of 96: four lanes, their count, and what ends the register.
 
+#![tactic(auto)]
+
 ghost use Rattle.std.specs.Prelude.{◌≡◌, ◌<◌};
 ghost use Rattle.registers.specs.Table.{register_at, set_register, is_current, holds_tuple, serves_at, holder_from, endings as endingsOf, hold_tuple};
 
 pub const REGISTERS: usize = 96;
 
 // The operands of a unit at one position, or its destinations, by code; 0 where there is no lane.
-#[derive(Drop)]
+#[derive(Clone, Copy)]
 pub struct Tuple {
     pub lanes: [u64; 4],
     pub count: u8,
@@ -16,7 +18,7 @@ pub struct Tuple {
 
 // "A register holds the tuple it was fetched from, or for O the destination tuple; it is current
 // until a statement writes one of those places": `ends` are the statements still to come that do.
-#[derive(Drop)]
+#[derive(Clone, Copy)]
 pub struct Register {
     pub lanes: [u64; 4],
     pub count: u8,

@@ -1,6 +1,8 @@
 // Sets of statements as words, bit i for statement i, and tables of numbers that may be read and
 // written at any index.
 
+#![tactic(auto)]
+
 ghost use Rattle.std.specs.Prelude.{◌≡◌, ◌<◌, ◌≤◌, ◌-◌, ◌^◌, ◌%◌, get_or, set as replaced};
 ghost use Rattle.std.specs.Int.Count.{count_trailing_zeros};
 ghost use Rattle.basics.specs.Sets.{only as onlyThis, join, has as holds};

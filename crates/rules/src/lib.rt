@@ -1,5 +1,7 @@
 // The rules of 9 for one instruction, the register that it writes, and what it costs.
 
+#![tactic(auto)]
+
 ghost use Rattle.std.specs.Prelude.{◌≡◌, ◌≤◌, min, take};
 ghost use Rattle.meaning.specs.List.{is_next, is_written, has_lane};
 ghost use Rattle.rules.specs.Rules.{row_declared, slot_declared, slots_declared, obeys_rules, registers_written, lanes_written};

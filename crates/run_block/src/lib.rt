@@ -1,5 +1,7 @@
 // The workstation's engine: a block run statement by statement, and its price.
 
+#![tactic(auto)]
+
 ghost use Rattle.std.specs.Prelude.{◌≡◌, min, ◌≤◌};
 ghost use Rattle.meaning.specs.Block.{declared, statement_price, block_price, cell_place, cell_operand};
 ghost use Rattle.basics.specs.Lists.{each};
@@ -76,7 +78,7 @@ fn run_statements(block: Block, lengths: &[u16], variables: &mut [u32], cells: &
 }
 
 // What running returns: zeros beside a refusal, else the price paid.
-#[derive(Drop)]
+#[derive(Clone, Copy)]
 pub struct Ran {
     pub status: u8,
     pub price: usize,

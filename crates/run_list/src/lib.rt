@@ -1,5 +1,7 @@
 // The card's engine: a list run beside its block.
 
+#![tactic(auto)]
+
 ghost use Rattle.std.specs.Prelude.{◌≡◌, ◌<◌, ◌≤◌, true, [], eqb, ◌&&◌, drop};
 ghost use Rattle.basics.specs.Choice.{pick};
 ghost use Rattle.meaning.specs.Machine.{cell_at};

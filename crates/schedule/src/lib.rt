@@ -1,12 +1,14 @@
 // "Schedule": the order of the units, and which packs are dissolved on the way.
 
+#![tactic(auto)]
+
 ghost use Rattle.std.specs.Prelude.{◌≡◌, ◌+◌, ◌≤◌, ◌<◌, get_or, set as replaced};
 ghost use Rattle.basics.specs.Sets.{join};
 ghost use Rattle.units.specs.Lanes.{lanes_word, word_lanes, member_lane, member_lanes};
 ghost use Rattle.schedule.specs.Stages.{stage_of, word_ready, ready_at, pack_at, lowest_waiting, without_one, written, single_word, single_need, in_lanes, with_single, stepped, scheduled_tables};
 
 // The units that wait, by lowest number, the statements that are scheduled, and how many units are.
-#[derive(Drop)]
+#[derive(Clone, Copy)]
 pub struct Progress {
     pub waiting: u64,
     pub scheduled: u64,

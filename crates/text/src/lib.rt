@@ -2,6 +2,8 @@
 // answers the position behind what it put. So no function asks for room, and a program shows once, for
 // its whole text, that there was enough.
 
+#![tactic(auto)]
+
 ghost use Rattle.std.specs.Prelude.{[], ◌∷◌, ◌/◌, ◌%◌, ◌<◌, ◌-◌, ◌≡◌, length};
 ghost use Rattle.text.specs.Puts.{Puts};
 ghost use Rattle.text.specs.Text.{letter as letterOf, spelled, decimal, field, hex, spaces, column};

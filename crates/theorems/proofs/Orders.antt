@@ -1,6 +1,6 @@
 -- Reordering: two orders of the same steps come to the same where each step that comes earlier in the one than in the other commutes with
 -- all that it overtakes; so an order in which no statement depends on one behind it runs as the block does.
-use mathlib.Core.Path.{◌≡◌, refl, sym, ap, ap₂, ◌∙◌}
+use mathlib.Core.Path.{◌≡◌, refl, sym, ap, ap₂, ◌∙◌, subst}
 use mathlib.Core.Logic.{◌⊎◌, inl, inr}
 use mathlib.Core.Bool.{Bool, true, false, ◌&&◌}
 use mathlib.Core.List.{List, [], ◌∷◌}
@@ -75,7 +75,7 @@ numbers_inside (suc n) i s low high = either (below_or_not i s) λ low'. numbers
     either (inl above) later = occurs_other s i (numbers n (i + 1)) (λ e. omega arith) ∙ later (omega arith)
     either (inr here) later =
         let e : s ≡ i = omega arith in
-        rw e (omega (arith, occurs_own i (numbers n (i + 1)), numbers_low n (i + 1) i (omega arith)))
+        subst (λ (x : ℕ). occurs x (i ∷ numbers n (i + 1)) ≡ 1) (sym e) (occurs_own i (numbers n (i + 1)) ∙ ap suc (numbers_low n (i + 1) i (omega arith)))
 
 pub numbers_range : (n i s : ℕ) → 0 < occurs s (numbers n i) → (i ≤ s) × (s < i + n)
 numbers_range n i s h = (low (below_or_not s i), high (below_or_not s (i + n)))

@@ -197,7 +197,7 @@ module _ {ss : List Statement} {n : ℕ} {units : List (List ℕ)} where
 
   each_step : {e : Emitted} (os : List Operand) → Reached ss n units e → Reached ss n units (each extract_operand os e)
   each_step [] r = r
-  each_step (o ∷ os) r = each_step os (operand_step o r)
+  each_step {e = e} (o ∷ os) r = each_step {e = extract_operand o e} os (operand_step {e = e} o r)
 
   -- a load
   load_step : {e : Emitted} (tuple : List Operand) → Tuple ss tuple → Reached ss n units e → Reached ss (suc n) units (load tuple e)
@@ -373,7 +373,7 @@ units_step : {ss : List Statement} {before : List (List ℕ)} {e : Emitted} (uni
 units_step {ss} {before} {e} [] f r = rw (append-nil before) r
 units_step {ss} {before} {e} (unit ∷ units) f r =
     subst (λ (so_far : List (List ℕ)). Reached ss 0 so_far (each (emit_unit ss) units (emit_unit ss unit e))) (append_snoc before unit units)
-    (units_step units f.1 (unit_step_lem unit f.0 r))
+    (units_step {before = before ++ unit ∷ []} {e = emit_unit ss unit e} units f.1 (unit_step_lem unit f.0 r))
 
 -- The end: all units by small steps, and no live-out variable in a lane.
 abbrev pub finished : List Statement → ℕ → List (List ℕ) → Emitted

@@ -3,11 +3,13 @@
 // A word has a byte for each lane, NONE where there is none, and their count above these. Units that
 // wait stand by their lowest statement number, and `needs` has for each of them what it waits for.
 
+#![tactic(auto)]
+
 ghost use Rattle.std.specs.Prelude.{◌≡◌, [], ◌∷◌, ◌<◌, ◌+◌, ◌*◌, get_or, set as replaced};
 ghost use Rattle.units.specs.Lanes.{lanes_of, lanes_word, word_lanes, lower_lane, lowest_lane, member_lane, member_lanes, needed_lanes};
 
 // "A unit is a pack or a single statement": its statements in the order of their lanes.
-#[derive(Drop)]
+#[derive(Clone, Copy)]
 pub struct Unit {
     pub lanes: [u8; 4],
     pub count: u8,

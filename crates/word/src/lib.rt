@@ -1,5 +1,7 @@
 // The eight operations on 32-bit values, as the workstation and the card both use them.
 
+#![tactic(auto)]
+
 ghost use Rattle.std.specs.Prelude.{◌≡◌, ◌*◌, ◌/◌, ◌%◌, ◌^◌};
 ghost use Rattle.meaning.specs.Machine.{operate as value_of};
 

@@ -1,6 +1,8 @@
 // Writing a block: from a block in memory, by value, to its bytes in a lent room. "The writer: 3, 4,
 // 5, 7, each over the whole block."
 
+#![tactic(auto)]
+
 mod bytes;
 mod declared;
 mod fits;
@@ -16,7 +18,7 @@ ghost use Rattle.writer.specs.Refusal.{refusal_of};
 use meaning::Block;
 
 // The number returned, and the length of the answer: with 0 what was written, with 7 what is needed.
-#[derive(Drop)]
+#[derive(Clone, Copy)]
 pub struct BlockWritten {
     pub status: u8,
     pub size: usize,
