@@ -26,7 +26,4 @@ returns-then-header-gt8 c =
 
 pub returns : goal.returns
 returns c =
-    let a = c.args in
-    let if1 = c.if-variables-gt32 in
-    let if2 = c.if-header-variables in
-    sym (counts_fit_by _ _ _ a.header.statements if1.false if2.false c.if-header-gt8.false)
+    sym (counts_fit_by _ _ _ c.args.header.statements c.if-variables-gt32.false c.if-header-variables.false c.if-header-gt8.false)

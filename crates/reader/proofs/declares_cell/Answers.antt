@@ -6,17 +6,12 @@ use Rattle.reader.proofs.declares_cell.Goals as goal
 
 pub returns-then-slot-lengths : goal.returns-then-slot-lengths
 returns-then-slot-lengths c =
-    let a = c.args in
-    let if1 = c.if-array-arrays in
-    let wide = c.wide-slot in
-    rw wide.ensures (sym (cell_declared 0 a.arrays a.array a.index a.lengths.now if1.true (omega (arith, c.if-slot-lengths.true, wide.ensures))))
+    rw c.wide-slot.ensures (sym (cell_declared 0 c.args.arrays c.args.array c.args.index c.args.lengths.now c.if-array-arrays.true (omega (arith, c.if-slot-lengths.true, c.wide-slot.ensures))))
 
 pub returns-else-slot-lengths : goal.returns-else-slot-lengths
 returns-else-slot-lengths c =
-    let a = c.args in
-    sym (cell_past 0 a.arrays a.array a.index a.lengths.now (omega (arith, c.if-slot-lengths.false, c.wide-slot.ensures)))
+    sym (cell_past 0 c.args.arrays c.args.array c.args.index c.args.lengths.now (omega (arith, c.if-slot-lengths.false, c.wide-slot.ensures)))
 
 pub returns-else-array-arrays : goal.returns-else-array-arrays
 returns-else-array-arrays c =
-    let a = c.args in
-    sym (cell_undeclared 0 a.arrays a.array a.index a.lengths.now c.if-array-arrays.false)
+    sym (cell_undeclared 0 c.args.arrays c.args.array c.args.index c.args.lengths.now c.if-array-arrays.false)

@@ -9,6 +9,4 @@ returns-in-Variable c = simp c.in-Variable.is
 
 pub returns-in-Cell : goal.returns-in-Cell
 returns-in-Cell c =
-    let a = c.args in
-    let place2 = c.place-in-Cell-1 in
-    c.declares_cell.ensures ∙ ap (declares_place a.variables (take a.arrays a.lengths.now)) (sym place2.given.1)
+    c.declares_cell.ensures ∙ ap (declares_place c.args.variables (take c.args.arrays c.args.lengths.now)) (sym c.in-Cell.is)

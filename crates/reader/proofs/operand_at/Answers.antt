@@ -8,8 +8,7 @@ use Rattle.reader.proofs.operand_at.Goals as goal
 
 pub returns-then-start-bytes : goal.returns-then-start-bytes
 returns-then-start-bytes c =
-    let a = c.args in
-    c.read_operand.ensures ∙ ap read_operand (take_rest a.bytes.now a.start)
+    c.read_operand.ensures ∙ ap read_operand (take_rest c.args.bytes.now c.args.start)
 
 pub returns-else-start-bytes : goal.returns-else-start-bytes
 unfolding read_operand

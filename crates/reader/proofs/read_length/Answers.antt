@@ -8,23 +8,14 @@ returns-then-bytes-start c = sym (length_ends c.args.bytes.now c.args.start c.if
 
 pub returns-then-size-lt1 : goal.returns-then-size-lt1
 returns-then-size-lt1 c =
-    let a = c.args in
-    let if1 = c.if-bytes-start in
-    let two = c.two-size in
-    sym (length_none a.bytes.now a.start two.result if1.false two.ensures c.if-size-lt1.true)
+    sym (length_none c.args.bytes.now c.args.start c.two-size.result c.if-bytes-start.false c.two-size.ensures c.if-size-lt1.true)
 
 pub returns-then-size-gt256 : goal.returns-then-size-gt256
 returns-then-size-gt256 c =
-    let a = c.args in
-    let if1 = c.if-bytes-start in
-    let two = c.two-size in
-    sym (length_over a.bytes.now a.start two.result if1.false two.ensures c.if-size-lt1.false
+    sym (length_over c.args.bytes.now c.args.start c.two-size.result c.if-bytes-start.false c.two-size.ensures c.if-size-lt1.false
     c.if-size-gt256.true)
 
 pub returns : goal.returns
 returns c =
-    let a = c.args in
-    let if1 = c.if-bytes-start in
-    let two = c.two-size in
-    sym (length_fits_lem a.bytes.now a.start two.result if1.false two.ensures c.if-size-lt1.false
+    sym (length_fits_lem c.args.bytes.now c.args.start c.two-size.result c.if-bytes-start.false c.two-size.ensures c.if-size-lt1.false
     c.if-size-gt256.false)

@@ -15,30 +15,18 @@ loop-i-init c = (omega (arith, c.wide-count.ensures, c.requires), omega arith, r
 pub returns-in-Refused : goal.returns-in-Refused
 unfolding no_lengths
 returns-in-Refused c =
-    let a = c.args in
-    let wide = c.wide-count in
-    let loop = c.loop-i in
-    let loop-test = c.loop-i-test in
-    let read_length = c.read_length-next in
-    sym (loop.invariant.2 ∙ lengths_stop a.bytes.now loop.lengths wide.result loop.i _ loop-test.true
-    (sym read_length.ensures ∙ c.in-Refused.is))
+    sym (c.loop-i.invariant.2 ∙ lengths_stop c.args.bytes.now c.loop-i.lengths c.wide-count.result c.loop-i.i _ c.loop-i-test.true
+    (sym c.read_length-next.ensures ∙ c.in-Refused.is))
 
 pub loop-i-preserved : goal.loop-i-preserved
 loop-i-preserved c =
-    let a = c.args in
-    let wide = c.wide-count in
-    let loop = c.loop-i in
-    let loop-test = c.loop-i-test in
-    let read_length = c.read_length-next in (
-      loop.invariant.0,
+    (
+      c.loop-i.invariant.0,
       omega arith,
-      loop.invariant.2 ∙ lengths_more a.bytes.now loop.lengths wide.result loop.i _
-          loop-test.true (sym read_length.ensures ∙ c.in-Length.is),
+      c.loop-i.invariant.2 ∙ lengths_more c.args.bytes.now c.loop-i.lengths c.wide-count.result c.loop-i.i _
+          c.loop-i-test.true (sym c.read_length-next.ensures ∙ c.in-Length.is),
     )
 
 pub returns : goal.returns
 returns c =
-    let a = c.args in
-    let wide = c.wide-count in
-    let loop = c.loop-i in
-    sym (loop.invariant.2 ∙ lengths_end a.bytes.now loop.lengths wide.result loop.i c.loop-i-test.false)
+    sym (c.loop-i.invariant.2 ∙ lengths_end c.args.bytes.now c.loop-i.lengths c.wide-count.result c.loop-i.i c.loop-i-test.false)

@@ -12,9 +12,7 @@ returns-then-bytes-lt5 c = sym (constant_short _ c.in-0.is c.if-bytes-lt5.true)
 
 pub returns-else-bytes-lt5 : goal.returns-else-bytes-lt5
 returns-else-bytes-lt5 c =
-    let arm = c.in-0 in
-    let if2 = c.if-bytes-lt5 in
-    ap Constant c.four.ensures ∙ sym (constant _ arm.keys1 if2.false)
+    ap Constant c.four.ensures ∙ sym (constant _ c.in-0.is c.if-bytes-lt5.false)
 
 pub returns-then-bytes-lt2 : goal.returns-then-bytes-lt2
 returns-then-bytes-lt2 c = sym (variable_short _ c.in-1.is c.if-bytes-lt2.true)
@@ -29,4 +27,4 @@ pub returns-else-bytes-lt3 : goal.returns-else-bytes-lt3
 returns-else-bytes-lt3 c = sym (cell _ c.in-2.is c.if-bytes-lt3.false)
 
 pub returns-in_default : goal.returns-in_default
-returns-in_default c = sym (unknown _ c.in-0.rest.0.0.1 c.in-0.rest.0.1 c.in-0.rest.1)
+returns-in_default c = sym (unknown _ c.in_default.in_default-own.rest.0.0.1 c.in_default.in_default-own.rest.0.1 c.in_default.in_default-own.rest.1)

@@ -15,46 +15,28 @@ loop-i-init c = (omega (arith, c.wide-count.ensures, c.requires), omega arith, r
 
 pub returns-in-Refused : goal.returns-in-Refused
 returns-in-Refused c =
-    let a = c.args in
-    let wide = c.wide-count in
-    let loop = c.loop-i in
-    let loop-test = c.loop-i-test in
-    let read_next = c.read_next-next in
-    let next = c.next-1 in
-    c.refuse.ensures ∙ sym (loop.invariant.2 ∙ statements_stop a.header a.lengths.now a.header.variables
-    (take a.header.arrays a.lengths.now) a.bytes.now loop.statements wide.result loop.i
-    loop.start _ loop-test.true (sym read_next.ensures ∙ next.given.1))
+    c.refuse.ensures ∙ sym (c.loop-i.invariant.2 ∙ statements_stop c.args.header c.args.lengths.now c.args.header.variables
+    (take c.args.header.arrays c.args.lengths.now) c.args.bytes.now c.loop-i.statements c.wide-count.result c.loop-i.i
+    c.loop-i.start _ c.loop-i-test.true (sym c.read_next-next.ensures ∙ c.in-Refused.is))
 
 pub loop-i-preserved : goal.loop-i-preserved
 loop-i-preserved c =
-    let a = c.args in
-    let wide = c.wide-count in
-    let loop = c.loop-i in
-    let loop-test = c.loop-i-test in
-    let read_next = c.read_next-next in (
-      loop.invariant.0,
+    (
+      c.loop-i.invariant.0,
       omega arith,
-      loop.invariant.2 ∙ statements_more a.header a.lengths.now a.header.variables
-          (take a.header.arrays a.lengths.now) a.bytes.now loop.statements wide.result loop.i
-          loop.start _ _ loop-test.true (sym read_next.ensures ∙ c.in-Read.is),
+      c.loop-i.invariant.2 ∙ statements_more c.args.header c.args.lengths.now c.args.header.variables
+          (take c.args.header.arrays c.args.lengths.now) c.args.bytes.now c.loop-i.statements c.wide-count.result c.loop-i.i
+          c.loop-i.start _ _ c.loop-i-test.true (sym c.read_next-next.ensures ∙ c.in-Read.is),
     )
 
 pub returns-then-start-bytes : goal.returns-then-start-bytes
 returns-then-start-bytes c =
-    let a = c.args in
-    let wide = c.wide-count in
-    let loop = c.loop-i in
-    let loop-test = c.loop-i-test in
-    c.refuse-then-start-bytes.ensures ∙ sym (loop.invariant.2 ∙ bytes_left a.header a.lengths.now a.header.variables (take a.header.arrays
-    a.lengths.now) a.bytes.now loop.statements wide.result loop.i loop.start loop-test.false
+    c.refuse-then-start-bytes.ensures ∙ sym (c.loop-i.invariant.2 ∙ bytes_left c.args.header c.args.lengths.now c.args.header.variables (take c.args.header.arrays
+    c.args.lengths.now) c.args.bytes.now c.loop-i.statements c.wide-count.result c.loop-i.i c.loop-i.start c.loop-i-test.false
     c.if-start-bytes.true)
 
 pub returns : goal.returns
 returns c =
-    let a = c.args in
-    let wide = c.wide-count in
-    let loop = c.loop-i in
-    let loop-test = c.loop-i-test in
-    sym (loop.invariant.2 ∙ statements_end a.header a.lengths.now a.header.variables (take a.header.arrays
-    a.lengths.now) a.bytes.now loop.statements wide.result loop.i loop.start loop-test.false
+    sym (c.loop-i.invariant.2 ∙ statements_end c.args.header c.args.lengths.now c.args.header.variables (take c.args.header.arrays
+    c.args.lengths.now) c.args.bytes.now c.loop-i.statements c.wide-count.result c.loop-i.i c.loop-i.start c.loop-i-test.false
     c.if-start-bytes.false)

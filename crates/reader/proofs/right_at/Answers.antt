@@ -10,6 +10,6 @@ returns-then-operation-eq0 c =
 pub returns-else-operation-eq0 : goal.returns-else-operation-eq0
 returns-else-operation-eq0 c =
     simp (
-      c.Operand-at.ensures,
+      c.operand_at.ensures,
       ne_eqb _ _ c.if-operation-eq0.false,
     )

@@ -8,10 +8,8 @@ overflow_add-result c = omega (arith, c.place_width.ensures, place_width_lem c.a
 
 pub overflow_add-result-2 : goal.overflow_add-result-2
 overflow_add-result-2 c =
-    let a = c.args in
-    omega (arith, c.place_width.ensures, place_width_lem a.statement.destination, c.operand_width.ensures, operand_width_lem a.statement.left)
+    omega (arith, c.place_width.ensures, place_width_lem c.args.statement.destination, c.operand_width.ensures, operand_width_lem c.args.statement.left)
 
 pub overflow_add-result-3 : goal.overflow_add-result-3
 overflow_add-result-3 c =
-    let a = c.args in
-    omega (arith, c.place_width.ensures, place_width_lem a.statement.destination, c.operand_width.ensures, operand_width_lem a.statement.left, c.operand_width-2.ensures, operand_width_lem a.statement.right)
+    omega (arith, c.place_width.ensures, place_width_lem c.args.statement.destination, c.operand_width.ensures, operand_width_lem c.args.statement.left, c.operand_width-2.ensures, operand_width_lem c.args.statement.right)
