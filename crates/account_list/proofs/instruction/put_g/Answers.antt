@@ -1,0 +1,7 @@
+-- `put_g` meets its contract: the register and the operands that it gathers.
+use Rattle.text.proofs.Putting.{both}
+use Rattle.account_list.proofs.instruction.put_g.Goals as goal
+
+pub returns : goal.returns
+returns c =
+    both (both (both c.put_words-behind_letter.ensures c.put_register-behind_register.ensures) c.put_words-behind_equals.ensures) c.put_operands.ensures

@@ -1,0 +1,7 @@
+-- `put_l` meets its contract: the register, and the cells that it is loaded from.
+use Rattle.text.proofs.Putting.{both}
+use Rattle.account_list.proofs.instruction.put_l.Goals as goal
+
+pub returns : goal.returns
+returns c =
+    both (both (both c.put_words-behind_letter.ensures c.put_register-behind_register.ensures) c.put_words-behind_equals.ensures) c.put_row.ensures

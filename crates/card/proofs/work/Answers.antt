@@ -1,0 +1,23 @@
+-- `card::work` meets its contract.
+use mathlib.Core.Path.{◌≡◌, sym, ap, ◌∙◌}
+use lib.ListN.{length, length-map}
+use Rattle.instructions.specs.declared.Register.{Register}
+use Rattle.card.specs.Registers.{held}
+use Rattle.card.proofs.Lanes.{worked}
+use Rattle.card.proofs.work.Goals as goal
+
+pub returns : goal.returns
+returns c =
+    let sized : length c.args.a.lanes ≡ 4 = sym (length-map c.args.a.lanes _) ∙ c.well-formed.1.0.1.1.0.1.0.1 in (
+      ap (λ (r : Register). r.current) c.new_register.ensures,
+      ap held c.new_register.ensures ∙ rw (
+        c.operate-v3.ensures,
+        c.operate-v2.ensures,
+        c.operate-v1.ensures,
+        c.operate-v0.ensures,
+        c.lane_of-4.ensures,
+        c.lane_of-3.ensures,
+        c.lane_of-2.ensures,
+        c.lane_of.ensures,
+      ) (worked c.args.operation c.args.a.count c.args.a.lanes (held c.args.b) sized),
+    )

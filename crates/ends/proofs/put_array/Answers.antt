@@ -1,0 +1,35 @@
+-- `put_array` meets its contract: each turn puts the line of the next cell.
+-- the text of the next one
+use mathlib.Core.List.{List}
+use Prim.Native.Nat.{ℕ, ◌-◌}
+use native.Mathlib.Omega.{arith}
+use Rattle.meaning.specs.declared.Place.TheVariants.{Cell}
+use Rattle.memory.specs.Lent.{lent}
+use Rattle.text.proofs.Putting.{start, next, finish, reads_as}
+use Rattle.ends.specs.Line.{place_line}
+use Rattle.ends.proofs.Turns.{turns_from, turns_next, turns_none, turns_all}
+use Rattle.ends.proofs.put_array.Goals as goal
+
+abbrev text_of : ℕ → (lengths start-variables start-cells block-variables block-cells list_variables list_cells : List ℕ) → ℕ → List ℕ
+text_of array lengths start-variables start-cells block-variables block-cells list_variables list_cells i =
+    place_line lengths (lent start-variables start-cells) (lent block-variables block-cells) (lent list_variables list_cells) (Cell array i)
+
+pub loop-i-init : goal.loop-i-init
+loop-i-init c =
+    start (turns_from (text_of c.args.array c.args.lengths.now c.args.start-variables.now c.args.start-cells.now c.args.block-variables.now c.args.block-cells.now c.args.list-variables.now c.args.list-cells.now) c.args.count)
+
+pub overflow_cast-place : goal.overflow_cast-place
+overflow_cast-place c = omega (arith, c.loop-i-test.true, c.requires)
+
+pub loop-i-preserved : goal.loop-i-preserved
+loop-i-preserved c =
+    let text = text_of c.args.array c.args.lengths.now c.args.start-variables.now c.args.start-cells.now c.args.block-variables.now c.args.block-cells.now c.args.list-variables.now c.args.list-cells.now in
+    next (turns_from text c.args.count) c.loop-i.invariant c.loop-i-test.true (turns_next text c.args.count c.loop-i.i c.loop-i-test.true) c.put_place_line-behind.ensures
+
+pub shape_of-out : goal.shape_of-out
+shape_of-out c = c.loop-i.invariant.long
+
+pub returns : goal.returns
+returns c =
+    let text = text_of c.args.array c.args.lengths.now c.args.start-variables.now c.args.start-cells.now c.args.block-variables.now c.args.block-cells.now c.args.list-variables.now c.args.list-cells.now in
+    reads_as (finish (turns_from text c.args.count) c.loop-i.invariant (turns_none text c.args.count c.loop-i.i c.loop-i-test.false)) (turns_all text c.args.count)

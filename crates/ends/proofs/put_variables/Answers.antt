@@ -1,0 +1,33 @@
+-- `put_variables` meets its contract: each turn puts the line of the next variable.
+-- the text of the next one
+use mathlib.Core.List.{List}
+use Prim.Native.Nat.{ℕ, ◌-◌}
+use Rattle.meaning.specs.declared.Place.TheVariants.{Variable}
+use Rattle.memory.specs.Lent.{lent}
+use Rattle.text.proofs.Putting.{start, next, finish, reads_as}
+use Rattle.ends.specs.Line.{place_line}
+use Rattle.ends.specs.Places.{variable_lines}
+use Rattle.ends.proofs.Turns.{turns_from, turns_next, turns_none, turns_all}
+use Rattle.ends.proofs.put_variables.Goals as goal
+
+abbrev text_of : (lengths start-variables start-cells block-variables block-cells list_variables list_cells : List ℕ) → ℕ → List ℕ
+text_of lengths start-variables start-cells block-variables block-cells list_variables list_cells i =
+    place_line lengths (lent start-variables start-cells) (lent block-variables block-cells) (lent list_variables list_cells) (Variable i)
+
+pub loop-v-init : goal.loop-v-init
+loop-v-init c =
+    start (turns_from (text_of c.args.lengths.now c.args.start-variables.now c.args.start-cells.now c.args.block-variables.now c.args.block-cells.now c.args.list-variables.now c.args.list-cells.now) c.args.live)
+
+pub loop-v-preserved : goal.loop-v-preserved
+loop-v-preserved c =
+    let text = text_of c.args.lengths.now c.args.start-variables.now c.args.start-cells.now c.args.block-variables.now c.args.block-cells.now c.args.list-variables.now c.args.list-cells.now in
+    next (turns_from text c.args.live) c.loop-v.invariant c.loop-v-test.true (turns_next text c.args.live c.loop-v.v c.loop-v-test.true) c.put_place_line-behind.ensures
+
+pub shape_of-out : goal.shape_of-out
+shape_of-out c = c.loop-v.invariant.long
+
+pub returns : goal.returns
+unfolding variable_lines
+returns c =
+    let text = text_of c.args.lengths.now c.args.start-variables.now c.args.start-cells.now c.args.block-variables.now c.args.block-cells.now c.args.list-variables.now c.args.list-cells.now in
+    reads_as (finish (turns_from text c.args.live) c.loop-v.invariant (turns_none text c.args.live c.loop-v.v c.loop-v-test.false)) (turns_all text c.args.live)

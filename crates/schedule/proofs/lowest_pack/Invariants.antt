@@ -1,0 +1,11 @@
+-- What holds at each turn of the loops of `schedule::lowest_pack`.
+use mathlib.Core.Path.{◌≡◌}
+use Prim.Native.Nat.{◌^◌, ◌<◌}
+use Rattle.schedule.specs.Stages.{pack_at, lowest_waiting}
+use Rattle.schedule.proofs.lowest_pack.Given as goal
+
+abbrev pub invariant-loop-rest : goal.invariant-loop-rest
+invariant-loop-rest l = (l.rest < 2 ^ 64) × (lowest_waiting (pack_at l.units) l.waiting ≡ lowest_waiting (pack_at l.units) l.rest)
+
+abbrev pub decreases-loop-rest : goal.decreases-loop-rest
+decreases-loop-rest l = l.rest
