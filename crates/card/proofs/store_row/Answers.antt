@@ -15,7 +15,7 @@ loop-j-init c = (zero-le, refl, rw (sub-zero, add-zero))
 
 pub loop-j-preserved : goal.loop-j-preserved
 loop-j-preserved c =
-    let sized : length c.args.a.lanes ≡ 4 = sym (length-map c.args.a.lanes _) ∙ c.well-formed.1.1.0.1.1.0.1.0.1 in
+    let sized : length c.args.a.lanes ≡ 4 = sym (length-map c.args.a.lanes _) ∙ c.well_formed.1.1.0.1.1.0.1.0.1 in
     let lanes = take c.args.a.count c.args.a.lanes in
     let below : c.loop-j.j < min c.args.k (length lanes) = omega (arith, length-take c.args.a.count c.args.a.lanes) in (
       omega arith,
@@ -27,7 +27,7 @@ loop-j-preserved c =
 
 pub returns : goal.returns
 returns c =
-    let sized : length c.args.a.lanes ≡ 4 = sym (length-map c.args.a.lanes _) ∙ c.well-formed.1.1.0.1.1.0.1.0.1 in
+    let sized : length c.args.a.lanes ≡ 4 = sym (length-map c.args.a.lanes _) ∙ c.well_formed.1.1.0.1.1.0.1.0.1 in
     let lanes = take c.args.a.count c.args.a.lanes in
     let above : min c.args.k (length lanes) ≤ c.loop-j.j = omega (arith, length-take c.args.a.count c.args.a.lanes) in
     sym (c.loop-j.invariant.2 ∙ no_lane c.args.k c.args.at c.loop-j.j lanes c.loop-j.cells above)

@@ -8,7 +8,7 @@ use Rattle.card.proofs.work.Goals as goal
 
 pub returns : goal.returns
 returns c =
-    let sized : length c.args.a.lanes ≡ 4 = sym (length-map c.args.a.lanes _) ∙ c.well-formed.1.0.1.1.0.1.0.1 in (
+    let sized : length c.args.a.lanes ≡ 4 = sym (length-map c.args.a.lanes _) ∙ c.well_formed.1.0.1.1.0.1.0.1 in (
       ap (λ (r : Register). r.current) c.new_register.ensures,
       ap held c.new_register.ensures ∙ rw (
         c.operate-v3.ensures,

@@ -1,18 +1,11 @@
 -- `put_array` meets its contract: each turn puts the line of the next cell.
 -- the text of the next one
-use mathlib.Core.List.{List}
-use Prim.Native.Nat.{ℕ, ◌-◌}
+use Prim.Native.Nat.{◌-◌}
 use native.Mathlib.Omega.{arith}
-use Rattle.meaning.specs.declared.Place.TheVariants.{Cell}
-use Rattle.memory.specs.Lent.{lent}
 use Rattle.text.proofs.Putting.{start, next, finish, reads_as}
-use Rattle.ends.specs.Line.{place_line}
 use Rattle.ends.proofs.Turns.{turns_from, turns_next, turns_none, turns_all}
+use Rattle.ends.proofs.put_array.Invariants.{text_of}
 use Rattle.ends.proofs.put_array.Goals as goal
-
-abbrev text_of : ℕ → (lengths start-variables start-cells block-variables block-cells list_variables list_cells : List ℕ) → ℕ → List ℕ
-text_of array lengths start-variables start-cells block-variables block-cells list_variables list_cells i =
-    place_line lengths (lent start-variables start-cells) (lent block-variables block-cells) (lent list_variables list_cells) (Cell array i)
 
 pub loop-i-init : goal.loop-i-init
 loop-i-init c =

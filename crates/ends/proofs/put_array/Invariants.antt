@@ -1,8 +1,16 @@
 -- What holds at each turn of the loops of `ends::put_array`.
-use Prim.Native.Nat.{◌-◌}
+use mathlib.Core.List.{List}
+use Prim.Native.Nat.{ℕ, ◌-◌}
+use Rattle.meaning.specs.declared.Place.TheVariants.{Cell}
+use Rattle.memory.specs.Lent.{lent}
 use Rattle.text.proofs.Putting.{Putting}
+use Rattle.ends.specs.Line.{place_line}
 use Rattle.ends.proofs.Turns.{turns_from}
 use Rattle.ends.proofs.put_array.Given as goal
+
+abbrev pub text_of : ℕ → (lengths start-variables start-cells block-variables block-cells list_variables list_cells : List ℕ) → ℕ → List ℕ
+text_of array lengths start-variables start-cells block-variables block-cells list_variables list_cells i =
+    place_line lengths (lent start-variables start-cells) (lent block-variables block-cells) (lent list_variables list_cells) (Cell array i)
 
 abbrev pub invariant-loop-i : goal.invariant-loop-i
 invariant-loop-i l = Putting (turns_from (text_of l.array l.lengths l.start-variables l.start-cells l.block-variables l.block-cells l.list_variables l.list_cells) l.count) l.count l.fn.out l.at l.out l.behind l.i

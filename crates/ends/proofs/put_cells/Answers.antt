@@ -4,29 +4,23 @@ use mathlib.Core.Path.{ap}
 use mathlib.Core.List.{List}
 use Prim.Native.Nat.{ℕ, ◌-◌}
 use native.Mathlib.Omega.{arith}
-use Rattle.meaning.specs.declared.Place.{Place}
 use Rattle.meaning.specs.declared.Place.TheVariants.{Cell}
-use Rattle.memory.specs.Lent.{lent}
 use Rattle.text.proofs.Putting.{start, next, finish, reads_as}
-use Rattle.ends.specs.Line.{place_line}
 use Rattle.ends.specs.Places.{in_turn}
 use Rattle.ends.proofs.Turns.{cells_from, cells_next, cells_none, few_cells}
+use Rattle.ends.proofs.put_cells.Invariants.{text_of}
 use Rattle.ends.proofs.put_cells.Goals as goal
-
-abbrev text_of : (lengths start-variables start-cells block-variables block-cells list_variables list_cells : List ℕ) → Place → List ℕ
-text_of lengths start-variables start-cells block-variables block-cells list_variables list_cells =
-    place_line lengths (lent start-variables start-cells) (lent block-variables block-cells) (lent list_variables list_cells)
 
 pub loop-a-init : goal.loop-a-init
 loop-a-init c =
     start (cells_from (text_of c.args.lengths.now c.args.start-variables.now c.args.start-cells.now c.args.block-variables.now c.args.block-cells.now c.args.list-variables.now c.args.list-cells.now) c.args.lengths.now)
 
 pub overflow_cast-a : goal.overflow_cast-a
-overflow_cast-a c = omega (arith, c.loop-a-test.true, c.requires.0)
+overflow_cast-a c = omega (arith, c.loop-a-test.true, c.requires.lengths_len_bound)
 
 pub put_array-behind-requires : goal.put_array-behind-requires
 put_array-behind-requires c =
-    omega (arith, c.wide.ensures, few_cells c.args.lengths.now c.loop-a.a c.requires.1 c.loop-a-test.true)
+    omega (arith, c.wide.ensures, few_cells c.args.lengths.now c.loop-a.a c.requires.lengths_value c.loop-a-test.true)
 
 pub loop-a-preserved : goal.loop-a-preserved
 loop-a-preserved c =

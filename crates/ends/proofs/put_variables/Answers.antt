@@ -1,18 +1,11 @@
 -- `put_variables` meets its contract: each turn puts the line of the next variable.
 -- the text of the next one
-use mathlib.Core.List.{List}
-use Prim.Native.Nat.{ℕ, ◌-◌}
-use Rattle.meaning.specs.declared.Place.TheVariants.{Variable}
-use Rattle.memory.specs.Lent.{lent}
+use Prim.Native.Nat.{◌-◌}
 use Rattle.text.proofs.Putting.{start, next, finish, reads_as}
-use Rattle.ends.specs.Line.{place_line}
 use Rattle.ends.specs.Places.{variable_lines}
 use Rattle.ends.proofs.Turns.{turns_from, turns_next, turns_none, turns_all}
+use Rattle.ends.proofs.put_variables.Invariants.{text_of}
 use Rattle.ends.proofs.put_variables.Goals as goal
-
-abbrev text_of : (lengths start-variables start-cells block-variables block-cells list_variables list_cells : List ℕ) → ℕ → List ℕ
-text_of lengths start-variables start-cells block-variables block-cells list_variables list_cells i =
-    place_line lengths (lent start-variables start-cells) (lent block-variables block-cells) (lent list_variables list_cells) (Variable i)
 
 pub loop-v-init : goal.loop-v-init
 loop-v-init c =

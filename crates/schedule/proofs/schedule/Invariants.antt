@@ -10,9 +10,9 @@ abbrev pub invariant-loop-i : goal.invariant-loop-i
 invariant-loop-i l = (l.i ≤ l.n + l.n)
     × (l.progress.count ≤ l.i)
     × (length l.units ≡ length l.fn.units)
-    × (length l.rules ≡ length l.fn.needs)
+    × (length l.needs ≡ length l.fn.needs)
     × (length l.order ≡ length l.fn.order)
-    × (steps_from (l.n + l.n) l.direct (stage l.fn.units l.fn.needs l.fn.order l.waiting nobody 0) ≡ steps_from (l.n + l.n - l.i) l.direct (stage_of l.units l.rules l.order l.progress))
+    × (steps_from (l.n + l.n) l.direct (stage l.fn.units l.fn.needs l.fn.order l.waiting nobody 0) ≡ steps_from (l.n + l.n - l.i) l.direct (stage_of l.units l.needs l.order l.progress))
 
 abbrev pub decreases-loop-i : goal.decreases-loop-i
 decreases-loop-i l = l.n + l.n - l.i

@@ -34,11 +34,11 @@ write_lengths-behind_lengths-requires c =
 
 pub write_statements-requires : goal.write_statements-requires
 write_statements-requires c =
-    let long : length c.write_lengths-behind_lengths.new.1.0 ≡ length c.args.room.now = c.write_lengths-behind_lengths.auto.1.0 ∙ simp length-set in
+    let long : length c.write_lengths-behind_lengths.new.room ≡ length c.args.room.now = c.write_lengths-behind_lengths.auto.room ∙ simp length-set in
     (c.requires.1, omega (arith, parts_size c.args.block, c.write_lengths-behind_lengths.ensures.0, c.requires))
 
 pub shape_of-room : goal.shape_of-room
-shape_of-room c = c.write_statements.auto.1.0 ∙ c.write_lengths-behind_lengths.auto.1.0 ∙ simp length-set
+shape_of-room c = c.write_statements.auto.room ∙ c.write_lengths-behind_lengths.auto.room ∙ simp length-set
 
 pub returns : goal.returns
 returns c =

@@ -18,19 +18,19 @@ write_place-behind_destination-requires c = simp length-set (omega (arith, recor
 -- the room keeps its length from call to call
 pub write_operand-behind_left-requires : goal.write_operand-behind_left-requires
 write_operand-behind_left-requires c =
-    let long : length c.write_place-behind_destination.new.1.0 ≡ length c.args.room.now = c.write_place-behind_destination.auto.1.0 ∙ simp length-set in
+    let long : length c.write_place-behind_destination.new.room ≡ length c.args.room.now = c.write_place-behind_destination.auto.room ∙ simp length-set in
     omega (arith, record_length c.args.statement, c.write_place-behind_destination.ensures.0, c.requires)
 
 pub write_operand-requires : goal.write_operand-requires
 write_operand-requires c =
-    let long : length c.write_operand-behind_left.new.1.0 ≡ length c.args.room.now = c.write_operand-behind_left.auto.1.0 ∙ c.write_place-behind_destination.auto.1.0 ∙ simp length-set in
+    let long : length c.write_operand-behind_left.new.room ≡ length c.args.room.now = c.write_operand-behind_left.auto.room ∙ c.write_place-behind_destination.auto.room ∙ simp length-set in
     omega (arith, record_length c.args.statement, c.write_place-behind_destination.ensures.0, c.write_operand-behind_left.ensures.0, c.requires)
 
 pub shape_of-room : goal.shape_of-room
 shape_of-room c =
-    c.write_operand.auto.1.0
-    ∙ c.write_operand-behind_left.auto.1.0
-    ∙ c.write_place-behind_destination.auto.1.0
+    c.write_operand.auto.room
+    ∙ c.write_operand-behind_left.auto.room
+    ∙ c.write_place-behind_destination.auto.room
     ∙ simp length-set
 
 pub returns : goal.returns

@@ -1,0 +1,6 @@
+-- `packs::put_dissolved` meets its contract: the heading, the dissolved packs, and that there is none.
+use Rattle.account_units.proofs.Telling.{section_put}
+use Rattle.account_units.proofs.packs.put_dissolved.Goals as goal
+
+pub returns : goal.returns
+returns c = section_put c.put_words-start.ensures c.put_dissolved_lines-behind.ensures c.put_none.ensures
