@@ -1,4 +1,6 @@
 -- `card::lane_of` meets its contract.
+use Rattle.basics.proofs.Mapped.{unmapped}
+use borrow.Author.Rules.{rules}
 use Rattle.card.proofs.Lanes.{not_held}
 use lib.Seq.{get_or-take}
 use native.Mathlib.Omega.{arith}
@@ -11,7 +13,7 @@ returns-then-lane-lt4 c = sym (get_or-take c.args.a.count c.args.a.lanes c.args.
 
 pub returns-else-lane-lt4 : goal.returns-else-lane-lt4
 returns-else-lane-lt4 c =
-    let sized : length c.args.a.lanes ≡ 4 = sym (length-map c.args.a.lanes _) ∙ c.well_formed.0.1.1.0.1.0.1 in
+    let sized : length c.args.a.lanes ≡ 4 = search (rules, unmapped) in
     sym (not_held c.args.a.count c.args.a.lanes c.args.lane (omega arith))
 
 pub returns-else-lane-wide : goal.returns-else-lane-wide

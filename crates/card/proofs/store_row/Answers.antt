@@ -1,4 +1,5 @@
 -- `card::store_row` meets its contract. What remains at j: the lanes from j on, stored in the cells from at + j on.
+use Rattle.basics.proofs.Mapped.{unmapped}
 use Rattle.card.specs.Registers.{row_stored}
 use Rattle.card.proofs.Lanes.{one_lane, no_lane}
 use lib.ListN.{length, take, drop, set, length-take, length-map}
@@ -15,7 +16,7 @@ loop-j-init c = (zero-le, refl, rw (sub-zero, add-zero))
 
 pub loop-j-preserved : goal.loop-j-preserved
 loop-j-preserved c =
-    let sized : length c.args.a.lanes ≡ 4 = sym (length-map c.args.a.lanes _) ∙ c.well_formed.1.1.0.1.1.0.1.0.1 in
+    let sized : length c.args.a.lanes ≡ 4 = search (rules, unmapped) in
     let lanes = take c.args.a.count c.args.a.lanes in
     let below : c.loop-j.j < min c.args.k (length lanes) = omega (arith, length-take c.args.a.count c.args.a.lanes) in (
       omega arith,
@@ -27,7 +28,7 @@ loop-j-preserved c =
 
 pub returns : goal.returns
 returns c =
-    let sized : length c.args.a.lanes ≡ 4 = sym (length-map c.args.a.lanes _) ∙ c.well_formed.1.1.0.1.1.0.1.0.1 in
+    let sized : length c.args.a.lanes ≡ 4 = search (rules, unmapped) in
     let lanes = take c.args.a.count c.args.a.lanes in
     let above : min c.args.k (length lanes) ≤ c.loop-j.j = omega (arith, length-take c.args.a.count c.args.a.lanes) in
     sym (c.loop-j.invariant.2 ∙ no_lane c.args.k c.args.at c.loop-j.j lanes c.loop-j.cells above)

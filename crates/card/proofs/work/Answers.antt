@@ -1,4 +1,6 @@
 -- `card::work` meets its contract.
+use Rattle.basics.proofs.Mapped.{unmapped}
+use borrow.Author.Rules.{rules}
 use mathlib.Core.Path.{◌≡◌, sym, ap, ◌∙◌}
 use lib.ListN.{length, length-map}
 use Rattle.instructions.specs.declared.Register.{Register}
@@ -8,7 +10,7 @@ use Rattle.card.proofs.work.Goals as goal
 
 pub returns : goal.returns
 returns c =
-    let sized : length c.args.a.lanes ≡ 4 = sym (length-map c.args.a.lanes _) ∙ c.well_formed.1.0.1.1.0.1.0.1 in (
+    let sized : length c.args.a.lanes ≡ 4 = search (rules, unmapped) in (
       ap (λ (r : Register). r.current) c.new_register.ensures,
       ap held c.new_register.ensures ∙ rw (
         c.operate-v3.ensures,

@@ -13,7 +13,7 @@ text_of array lengths start-variables start-cells block-variables block-cells li
     place_line lengths (lent start-variables start-cells) (lent block-variables block-cells) (lent list_variables list_cells) (Cell array i)
 
 abbrev pub invariant-loop-i : goal.invariant-loop-i
-invariant-loop-i l = Putting (turns_from (text_of l.array l.lengths l.start-variables l.start-cells l.block-variables l.block-cells l.list_variables l.list_cells) l.count) l.count l.fn.out l.at l.out l.behind l.i
+invariant-loop-i l = Putting (turns_from (text_of l.array l.lengths l.start_variables l.start_cells l.block_variables l.block_cells l.list_variables l.list_cells) l.count) l.count l.fn.out l.at l.out l.behind l.i
 
 abbrev pub decreases-loop-i : goal.decreases-loop-i
 decreases-loop-i l = l.count - l.i

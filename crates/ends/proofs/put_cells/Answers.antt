@@ -13,7 +13,7 @@ use Rattle.ends.proofs.put_cells.Goals as goal
 
 pub loop-a-init : goal.loop-a-init
 loop-a-init c =
-    start (cells_from (text_of c.args.lengths.now c.args.start-variables.now c.args.start-cells.now c.args.block-variables.now c.args.block-cells.now c.args.list-variables.now c.args.list-cells.now) c.args.lengths.now)
+    start (cells_from (text_of c.args.lengths.now c.args.start_variables.now c.args.start_cells.now c.args.block_variables.now c.args.block_cells.now c.args.list_variables.now c.args.list_cells.now) c.args.lengths.now)
 
 pub overflow_cast-a : goal.overflow_cast-a
 overflow_cast-a c = omega (arith, c.loop-a-test.true, c.requires.lengths_len_bound)
@@ -24,7 +24,7 @@ put_array-behind-requires c =
 
 pub loop-a-preserved : goal.loop-a-preserved
 loop-a-preserved c =
-    let text = text_of c.args.lengths.now c.args.start-variables.now c.args.start-cells.now c.args.block-variables.now c.args.block-cells.now c.args.list-variables.now c.args.list-cells.now in
+    let text = text_of c.args.lengths.now c.args.start_variables.now c.args.start_cells.now c.args.block_variables.now c.args.block_cells.now c.args.list_variables.now c.args.list_cells.now in
     let cells : ℕ → List ℕ = λ n. in_turn (λ i. text (Cell c.loop-a.a i)) n 0 in
     next (cells_from text c.args.lengths.now) c.loop-a.invariant c.loop-a-test.true (cells_next text c.args.lengths.now c.loop-a.a c.loop-a-test.true)
     (reads_as c.put_array-behind.ensures (ap cells c.wide.ensures))
@@ -34,5 +34,5 @@ shape_of-out c = c.loop-a.invariant.long
 
 pub returns : goal.returns
 returns c =
-    let text = text_of c.args.lengths.now c.args.start-variables.now c.args.start-cells.now c.args.block-variables.now c.args.block-cells.now c.args.list-variables.now c.args.list-cells.now in
+    let text = text_of c.args.lengths.now c.args.start_variables.now c.args.start_cells.now c.args.block_variables.now c.args.block_cells.now c.args.list_variables.now c.args.list_cells.now in
     finish (cells_from text c.args.lengths.now) c.loop-a.invariant (cells_none text c.args.lengths.now c.loop-a.a c.loop-a-test.false)

@@ -14,7 +14,7 @@ text_of lengths start-variables start-cells block-variables block-cells list_var
     place_line lengths (lent start-variables start-cells) (lent block-variables block-cells) (lent list_variables list_cells)
 
 abbrev pub invariant-loop-a : goal.invariant-loop-a
-invariant-loop-a l = Putting (cells_from (text_of l.lengths l.start-variables l.start-cells l.block-variables l.block-cells l.list_variables l.list_cells) l.lengths) (length l.lengths) l.fn.out l.at l.out l.behind l.a
+invariant-loop-a l = Putting (cells_from (text_of l.lengths l.start_variables l.start_cells l.block_variables l.block_cells l.list_variables l.list_cells) l.lengths) (length l.lengths) l.fn.out l.at l.out l.behind l.a
 
 abbrev pub decreases-loop-a : goal.decreases-loop-a
 decreases-loop-a l = length l.lengths - l.a

@@ -13,7 +13,7 @@ text_of lengths start-variables start-cells block-variables block-cells list_var
     place_line lengths (lent start-variables start-cells) (lent block-variables block-cells) (lent list_variables list_cells) (Variable i)
 
 abbrev pub invariant-loop-v : goal.invariant-loop-v
-invariant-loop-v l = Putting (turns_from (text_of l.lengths l.start-variables l.start-cells l.block-variables l.block-cells l.list_variables l.list_cells) l.live) l.live l.fn.out l.at l.out l.behind l.v
+invariant-loop-v l = Putting (turns_from (text_of l.lengths l.start_variables l.start_cells l.block_variables l.block_cells l.list_variables l.list_cells) l.live) l.live l.fn.out l.at l.out l.behind l.v
 
 abbrev pub decreases-loop-v : goal.decreases-loop-v
 decreases-loop-v l = l.live - l.v

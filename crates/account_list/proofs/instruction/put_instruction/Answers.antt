@@ -8,49 +8,49 @@ use Rattle.account_list.proofs.instruction.put_instruction.Goals as goal
 pub returns-in-Broken : goal.returns-in-Broken
 unfolding shown
 returns-in-Broken c =
-    reads_as c.put_words.ensures (ap (λ (i : Instruction). shown i statement_named) (sym c.in-Broken.is))
+    reads_as c.put_words.ensures (ap (λ (i : Instruction). shown i c.args.statement) (sym c.in-Broken.is))
 
 pub returns-in-S : goal.returns-in-S
 unfolding shown
 returns-in-S c =
-    reads_as c.put_s.ensures (ap (λ (i : Instruction). shown i statement_named) (sym c.in-S.is))
+    reads_as c.put_s.ensures (ap (λ (i : Instruction). shown i c.args.statement) (sym c.in-S.is))
 
 pub returns-in-L : goal.returns-in-L
 unfolding shown
 returns-in-L c =
-    reads_as c.put_l.ensures (ap (λ (i : Instruction). shown i statement_named) (sym c.in-L.is))
+    reads_as c.put_l.ensures (ap (λ (i : Instruction). shown i c.args.statement) (sym c.in-L.is))
 
 pub returns-in-C : goal.returns-in-C
 unfolding shown
 returns-in-C c =
-    reads_as c.put_c.ensures (ap (λ (i : Instruction). shown i statement_named) (sym c.in-C.is))
+    reads_as c.put_c.ensures (ap (λ (i : Instruction). shown i c.args.statement) (sym c.in-C.is))
 
 pub returns-in-G : goal.returns-in-G
 unfolding shown
 returns-in-G c =
-    reads_as c.put_g.ensures (ap (λ (i : Instruction). shown i statement_named) (sym c.in-G.is))
+    reads_as c.put_g.ensures (ap (λ (i : Instruction). shown i c.args.statement) (sym c.in-G.is))
 
 pub returns-in-Copy : goal.returns-in-Copy
 unfolding shown
 returns-in-Copy c =
-    reads_as c.put_copy.ensures (ap (λ (i : Instruction). shown i statement_named) (sym c.in-Copy.is))
+    reads_as c.put_copy.ensures (ap (λ (i : Instruction). shown i c.args.statement) (sym c.in-Copy.is))
 
 pub returns-in-O : goal.returns-in-O
 unfolding shown
 returns-in-O c =
-    reads_as c.put_o.ensures (ap (λ (i : Instruction). shown i statement_named) (sym c.in-O.is))
+    reads_as c.put_o.ensures (ap (λ (i : Instruction). shown i c.args.statement) (sym c.in-O.is))
 
 pub returns-in-W : goal.returns-in-W
 unfolding shown
 returns-in-W c =
-    reads_as c.put_w.ensures (ap (λ (i : Instruction). shown i statement_named) (sym c.in-W.is))
+    reads_as c.put_w.ensures (ap (λ (i : Instruction). shown i c.args.statement) (sym c.in-W.is))
 
 pub returns-in-D : goal.returns-in-D
 unfolding shown
 returns-in-D c =
-    reads_as c.put_d.ensures (ap (λ (i : Instruction). shown i statement_named) (sym c.in-D.is))
+    reads_as c.put_d.ensures (ap (λ (i : Instruction). shown i c.args.statement) (sym c.in-D.is))
 
 pub returns-in-X : goal.returns-in-X
 unfolding shown
 returns-in-X c =
-    reads_as c.put_x.ensures (ap (λ (i : Instruction). shown i statement_named) (sym c.in-X.is))
+    reads_as c.put_x.ensures (ap (λ (i : Instruction). shown i c.args.statement) (sym c.in-X.is))

@@ -1,17 +1,14 @@
 -- `statement_number` meets its contract: every other instruction names none.
 use mathlib.Core.Path.{◌≡◌, refl}
-use mathlib.Core.List.{[], ◌∷◌}
-use denote.Enum.Declared.{tag_of}
-use types.Run.{OneOf, miss}
-use Rattle.instructions.specs.contracts.Instruction.{the_type}
+use Prim.Native.Nat.{ℕ}
 use Rattle.instructions.specs.declared.Instruction.{Instruction}
 use Rattle.instructions.specs.declared.Instruction.TheVariants.{Broken, S, L, C, G, Copy, O, W, D, X}
 use Rattle.account_list.specs.Shown.{number_of}
 use Rattle.account_list.proofs.section.statement_number.Goals as goal
 
-no_number : (i : Instruction) → OneOf (0 ∷ 2 ∷ 3 ∷ 4 ∷ 5 ∷ 6 ∷ 7 ∷ 8 ∷ 9 ∷ []) (tag_of the_type i) → 0 ≡ number_of i
+no_number : (i : Instruction) → ((number : ℕ) → i ≡ S number → ⊥) → 0 ≡ number_of i
 no_number Broken other = refl
-no_number (S number) other = absurd (miss (0 ∷ 2 ∷ 3 ∷ 4 ∷ 5 ∷ 6 ∷ 7 ∷ 8 ∷ 9 ∷ []) 1 tt other)
+no_number (S number) other = absurd (other number refl)
 no_number (L r k a i) other = refl
 no_number (C r k c₀ c₁ c₂ c₃) other = refl
 no_number (G r k o₀ o₁ o₂ o₃) other = refl
@@ -22,4 +19,4 @@ no_number (D r lane a i) other = refl
 no_number (X r lane v) other = refl
 
 pub returns-in_default : goal.returns-in_default
-returns-in_default c = no_number c.args.i c.in-S.keys2
+returns-in_default c = no_number c.args.i c.in_default.not-S

@@ -17,12 +17,12 @@ loop-i-init c =
 
 pub loop-i-preserved : goal.loop-i-preserved
 loop-i-preserved c =
-    let passes = sym c.well-formed-2.ensures ∙ c.if-well_formed.true in
+    let passes = sym c.well_formed-in-loop-i.ensures ∙ c.if-well_formed.true in
     (omega arith, omega arith, c.loop-i.invariant.2 ∙ all_still well_formed c.args.block.statements c.args.block.count c.loop-i.i blank (omega arith) (omega arith) passes)
 
 pub returns-else-well_formed : goal.returns-else-well_formed
 returns-else-well_formed c =
-    let fails = sym c.well-formed-2.ensures ∙ c.if-well_formed.false in
+    let fails = sym c.well_formed-in-loop-i.ensures ∙ c.if-well_formed.false in
     sym (c.loop-i.invariant.2 ∙ all_fails well_formed c.args.block.statements c.args.block.count c.loop-i.i blank (omega arith) (omega arith) fails)
 
 pub returns : goal.returns
