@@ -1,4 +1,5 @@
 -- `put_records` meets its contract: each turn puts the line of the next record.
+use borrow.Author.Rules.{rules}
 use mathlib.Core.Path.{◌≡◌, refl, sym, ap, ◌∙◌}
 use Prim.Native.Nat.{ℕ, ◌-◌}
 use lib.ListN.{length, take}
@@ -17,7 +18,7 @@ loop-i-init c =
 pub loop-i-preserved : goal.loop-i-preserved
 loop-i-preserved c =
     let ss = take c.args.block.count c.args.block.statements in
-    let sized : length c.args.block.statements ≡ 64 = unmapped _ c.args.block.statements 64 c.well_formed.1.1.0.1.1.1.1.1.1.1.0.1.0.1 in
+    let sized : length c.args.block.statements ≡ 64 = search (rules, unmapped) in
     let named =
     statement_named c.args.block.statements c.args.block.count c.statement_number-number.result c.slot-named.result c.declared_or_blank-statement.result sized c.slot-named.ensures.0
     c.declared_or_blank-statement.ensures in (
