@@ -6,7 +6,8 @@
 ghost use Rattle.std.specs.Prelude.{◌≡◌, ◌≤◌, length, take};
 ghost use Rattle.comparison.specs.Compared.{compared};
 
-use libc::{STDIN_FILENO, STDOUT_FILENO};
+use std::io;
+use std::io::Write;
 
 // All that standard output is given, and how many bytes it is.
 fn print(given: &[u8], out: &mut [u8]) -> usize
@@ -18,10 +19,10 @@ fn print(given: &[u8], out: &mut [u8]) -> usize
 }
 
 // One byte more than a block with its contents can have is read, so that too many are seen.
-fn main() {
+fn main(rt: HostRuntime) -> io::Result<()> {
     let mut input = [0u8; 9304];
-    let given = io::read_full(STDIN_FILENO, &mut input);
+    let given = streams::read_front(&mut rt.stdin(), &mut input)?;
     let mut out = [0u8; 240000];
     let size = print(&input[..given], &mut out);
-    io::write_all(STDOUT_FILENO, &out[..size]);
+    rt.stdout().write_all(&out[..size])
 }

@@ -6,7 +6,8 @@
 ghost use Rattle.std.specs.Prelude.{◌≡◌, ◌≤◌, length, take};
 ghost use Rattle.explain.specs.Printed.{printed};
 
-use libc::{STDIN_FILENO, STDOUT_FILENO};
+use std::io;
+use std::io::Write;
 
 // All that standard output is given. Input over 4,096 bytes is not looked at.
 fn print(input: &[u8], out: &mut [u8]) -> usize
@@ -32,10 +33,10 @@ fn print(input: &[u8], out: &mut [u8]) -> usize
     behind
 }
 
-fn main() {
+fn main(rt: HostRuntime) -> io::Result<()> {
     let mut input = [0u8; 4097];
-    let given = io::read_full(STDIN_FILENO, &mut input);
+    let given = streams::read_front(&mut rt.stdin(), &mut input)?;
     let mut out = [0u8; 60000];
     let size = print(&input[..given], &mut out);
-    io::write_all(STDOUT_FILENO, &out[..size]);
+    rt.stdout().write_all(&out[..size])
 }

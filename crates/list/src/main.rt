@@ -6,8 +6,9 @@
 ghost use Rattle.std.specs.Prelude.{◌≡◌, ◌≤◌, length, take};
 ghost use Rattle.answers.specs.Lines.{made_of, printed};
 
-use libc::{STDERR_FILENO, STDIN_FILENO, STDOUT_FILENO};
 use maker::Made;
+use std::io;
+use std::io::Write;
 
 // The status, and how many bytes of text there are.
 #[derive(Clone, Copy)]
@@ -46,17 +47,18 @@ fn print(input: &[u8], room: &mut [u8], out: &mut [u8]) -> Printed
     }
 }
 
-fn main() {
+fn main(rt: HostRuntime) -> io::Result<()> {
     let mut input = [0u8; 4097];
-    let given = io::read_full(STDIN_FILENO, &mut input);
+    let given = streams::read_front(&mut rt.stdin(), &mut input)?;
     let mut room = [0u8; 4096];
     let mut out = [0u8; 8292];
     let answer = print(&input[..given], &mut room, &mut out);
     let status = answer.status;
     let size = answer.size;
-    io::write_all(STDOUT_FILENO, &out[..size]);
+    rt.stdout().write_all(&out[..size])?;
     if status != 0 {
         let said = answers::put_complaint(&mut out, status, given);
-        io::write_all(STDERR_FILENO, &out[..said]);
+        rt.stderr().write_all(&out[..said])?;
     }
+    Ok(())
 }

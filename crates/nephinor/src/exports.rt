@@ -1,5 +1,5 @@
-// The calls for C and Rust: numbers and slices only, a slice as a pointer and a length. Status, size and
-// prices come back in one number (specs/Packed.antt).
+// The calls for C and Rust: numbers and slices only. Status, size and prices come back in one number
+// (specs/Packed.antt). The crate nephinor_c gives them the names by which they are linked.
 
 ghost use Rattle.std.specs.Prelude.{◌≡◌};
 ghost use Rattle.memory.specs.Lent.{lent};
@@ -7,8 +7,7 @@ ghost use Rattle.meaning.specs.Calls.{read_block_call, run_block_call, run_list_
 ghost use Rattle.nephinor.specs.Exports.{ran_packed, table_read, table_written, made_packed};
 
 // A block's bytes read into a table of 652 numbers (table/specs/Table.antt).
-#[unsafe(no_mangle)]
-pub extern "C" fn nephinor_read_block(bytes: &[u8], numbers: &mut [u32]) -> u64
+pub fn nephinor_read_block(bytes: &[u8], numbers: &mut [u32]) -> u64
     ensures { record { number = result; table = numbers.new } ≡ table_read numbers.old (read_block_call bytes.now) }
 {
     let read = crate::read_block(bytes);
@@ -25,8 +24,7 @@ pub extern "C" fn nephinor_read_block(bytes: &[u8], numbers: &mut [u32]) -> u64
 }
 
 // A block's bytes written from such a table (table/specs/Said.antt).
-#[unsafe(no_mangle)]
-pub extern "C" fn nephinor_write_block(numbers: &[u32], room: &mut [u8]) -> u64
+pub fn nephinor_write_block(numbers: &[u32], room: &mut [u8]) -> u64
     ensures { record { number = result; room = room.new } ≡ table_written numbers.now room.old }
 {
     if numbers.len() < 652 {
@@ -37,8 +35,7 @@ pub extern "C" fn nephinor_write_block(numbers: &[u32], room: &mut [u8]) -> u64
     crate::packed::pack(written.status, written.size, 0, 0)
 }
 
-#[unsafe(no_mangle)]
-pub extern "C" fn nephinor_make_list(bytes: &[u8], room: &mut [u8]) -> u64
+pub fn nephinor_make_list(bytes: &[u8], room: &mut [u8]) -> u64
     ensures { record { number = result; room = room.new } ≡ made_packed (make_list_call bytes.now room.old) }
 {
     let made = crate::make_list(bytes, room);
@@ -50,8 +47,7 @@ pub extern "C" fn nephinor_make_list(bytes: &[u8], room: &mut [u8]) -> u64
     )
 }
 
-#[unsafe(no_mangle)]
-pub extern "C" fn nephinor_run_block(bytes: &[u8], variables: &mut [u32], cells: &mut [u32]) -> u64
+pub fn nephinor_run_block(bytes: &[u8], variables: &mut [u32], cells: &mut [u32]) -> u64
     ensures { record { number = result; contents = lent variables.new cells.new }
         ≡ ran_packed (run_block_call bytes.now (lent variables.old cells.old)) }
 {
@@ -59,8 +55,7 @@ pub extern "C" fn nephinor_run_block(bytes: &[u8], variables: &mut [u32], cells:
     crate::packed::pack(ran.status, 0, ran.price, 0)
 }
 
-#[unsafe(no_mangle)]
-pub extern "C" fn nephinor_run_list(
+pub fn nephinor_run_list(
     block_bytes: &[u8],
     bytes: &[u8],
     variables: &mut [u32],

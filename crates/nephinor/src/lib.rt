@@ -3,7 +3,7 @@
 
 #![tactic(auto)]
 
-mod exports;
+pub mod exports;
 mod packed;
 
 ghost use Rattle.std.specs.Prelude.{◌≡◌};
