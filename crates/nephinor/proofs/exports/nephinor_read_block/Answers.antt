@@ -17,6 +17,6 @@ pub returns : goal.returns
 returns c =
     let eight : length c.read_block-read.result.block.lengths ≡ 8 = search rules in
     let many : length c.read_block-read.result.block.statements ≡ 64 = search (rules, unmapped) in
-    filled_table _ _ c.read_block-read.result.block _ _ ((sym (ap (λ (c.read_block-read : BlockRead). c.read_block-read.status) c.read_block-read.ensures)) ∙ c.if-status-ne0.false)
+    filled_table _ _ c.read_block-read.result.block _ _ ((sym (ap (λ (read : BlockRead). read.status) c.read_block-read.ensures)) ∙ c.if-status-ne0.false)
     (sym (ap (λ (r : BlockRead). r.block) c.read_block-read.ensures)) eight many c.if-numbers-lt652.false
     c.put_block.ensures c.pack-2.ensures
