@@ -3,7 +3,6 @@
 use Rattle.std.specs.Prelude.{ℕ, zero, suc, List, [], ◌++◌, eqb, leb, get_or}
 use Rattle.std.proofs.Math.Option.{Option, none, some}
 use Rattle.basics.specs.Choice.{pick}
-use Rattle.meaning.specs.declared.Operand.{Operand}
 use Rattle.meaning.specs.declared.Place.TheVariants.{Variable, Cell}
 use Rattle.meaning.specs.declared.Statement.{Statement}
 use Rattle.meaning.specs.List.{Instruction as Meaning}

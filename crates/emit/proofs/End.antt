@@ -1,6 +1,5 @@
 -- Emission over the tables is emission: the bytes, the count and the price that it leaves are those of the list.
 use Rattle.std.proofs.Common.{◌≡◌, ℕ, ◌+◌, ◌≤◌, true, List, [], length, get_or, replicate, refl, ap, ◌∙◌, arith}
-use Rattle.basics.specs.Counting.{count}
 use Rattle.basics.specs.Lists.{all, flat, each}
 use Rattle.basics.specs.Sets.{nobody}
 use Rattle.basics.proofs.Sets.{has_nobody}

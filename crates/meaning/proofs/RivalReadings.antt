@@ -1,7 +1,7 @@
 -- Blocks that tell document 01 apart from rival readings of it, among them its "Easy errors", as one statement over one table. A row's comment
 -- has the block's statements and, by the paragraph that it is about, the reading that the row holds to.
 use mathlib.Core.Path.{◌≡◌, refl}
-use mathlib.Core.List.{List, [], ◌∷◌, map}
+use mathlib.Core.List.{List, ◌∷◌, map}
 use Rattle.meaning.specs.Format.{bytes_of}
 use Rattle.meaning.proofs.Computes.{everything}
 use Rattle.meaning.proofs.Making.{Row, made, expected}

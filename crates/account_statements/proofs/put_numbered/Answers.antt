@@ -1,6 +1,5 @@
 -- `put_numbered` meets its contract: each turn puts the line of the next statement.
 use mathlib.Core.Path.{◌≡◌}
-use Prim.Native.Nat.{◌-◌}
 use native.Mathlib.Omega.{arith}
 use lib.ListN.{length}
 use borrow.Author.Rules.{rules}

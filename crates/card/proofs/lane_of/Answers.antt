@@ -4,8 +4,8 @@ use borrow.Author.Rules.{rules}
 use Rattle.card.proofs.Lanes.{not_held}
 use lib.Seq.{get_or-take}
 use native.Mathlib.Omega.{arith}
-use mathlib.Core.Path.{◌≡◌, sym, ◌∙◌}
-use lib.ListN.{length, length-map}
+use mathlib.Core.Path.{◌≡◌, sym}
+use lib.ListN.{length}
 use Rattle.card.proofs.lane_of.Goals as goal
 
 pub returns-then-lane-lt4 : goal.returns-then-lane-lt4

@@ -2,7 +2,7 @@
 use Rattle.basics.proofs.Mapped.{unmapped}
 use Rattle.card.specs.Registers.{row_stored}
 use Rattle.card.proofs.Lanes.{one_lane, no_lane}
-use lib.ListN.{length, take, drop, set, length-take, length-map}
+use lib.ListN.{length, take, drop, set, length-take}
 use native.Mathlib.Omega.{arith}
 use native.Mathlib.Nat.{sub-zero, add-zero}
 use mathlib.Core.List.{List}

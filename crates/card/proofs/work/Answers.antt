@@ -1,8 +1,8 @@
 -- `card::work` meets its contract.
 use Rattle.basics.proofs.Mapped.{unmapped}
 use borrow.Author.Rules.{rules}
-use mathlib.Core.Path.{◌≡◌, sym, ap, ◌∙◌}
-use lib.ListN.{length, length-map}
+use mathlib.Core.Path.{◌≡◌, ap, ◌∙◌}
+use lib.ListN.{length}
 use Rattle.instructions.specs.declared.Register.{Register}
 use Rattle.card.specs.Registers.{held}
 use Rattle.card.proofs.Lanes.{worked}

@@ -1,6 +1,5 @@
 -- `put_array` meets its contract: each turn puts the line of the next cell.
 -- the text of the next one
-use Prim.Native.Nat.{◌-◌}
 use native.Mathlib.Omega.{arith}
 use Rattle.text.proofs.Putting.{start, next, finish, reads_as}
 use Rattle.ends.proofs.Turns.{turns_from, turns_next, turns_none, turns_all}

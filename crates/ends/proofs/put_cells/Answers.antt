@@ -2,7 +2,7 @@
 -- the text of one place
 use mathlib.Core.Path.{ap}
 use mathlib.Core.List.{List}
-use Prim.Native.Nat.{ℕ, ◌-◌}
+use Prim.Native.Nat.{ℕ}
 use native.Mathlib.Omega.{arith}
 use Rattle.meaning.specs.declared.Place.TheVariants.{Cell}
 use Rattle.text.proofs.Putting.{start, next, finish, reads_as}

@@ -1,6 +1,5 @@
 -- `put_variables` meets its contract: each turn puts the line of the next variable.
 -- the text of the next one
-use Prim.Native.Nat.{◌-◌}
 use Rattle.text.proofs.Putting.{start, next, finish, reads_as}
 use Rattle.ends.specs.Places.{variable_lines}
 use Rattle.ends.proofs.Turns.{turns_from, turns_next, turns_none, turns_all}

@@ -12,23 +12,21 @@ pub loop-rest-init : goal.loop-rest-init
 loop-rest-init c = (refl, (search rules, (omega arith, omega arith)))
 
 pub best_with-best-requires : goal.best_with-best-requires
-best_with-best-requires c =
-    (
-      rw c.first.ensures.0 (lowest_below c.loop-rest.rest c.loop-rest.invariant.1.0 (ne_eqb c.loop-rest.rest 0 c.loop-rest-test.true)),
-      (c.loop-rest.invariant.1.1.0, (c.loop-rest.invariant.1.1.1, search rules)),
-    )
+best_with-best-requires c = (
+  rw c.first.ensures.0 (lowest_below c.loop-rest.rest c.loop-rest.invariant.1.0 (ne_eqb c.loop-rest.rest 0 c.loop-rest-test.true)),
+  (c.loop-rest.invariant.1.1.0, (c.loop-rest.invariant.1.1.1, search rules)),
+)
 
 pub loop-rest-smaller : goal.loop-rest-smaller
 loop-rest-smaller c = rw c.behind_first-rest.ensures (behind_fewer c.loop-rest.rest c.loop-rest-test.true)
 
 pub loop-rest-preserved : goal.loop-rest-preserved
-loop-rest-preserved c =
-    (
-      c.loop-rest.invariant.0
-          ∙ walk_next c.loop-rest.rest _ _ c.loop-rest.invariant.1.0 c.loop-rest-test.true
-          ∙ rw (c.behind_first-rest.ensures, c.best_with-best.ensures.0, c.first.ensures.0),
-      (rw c.behind_first-rest.ensures (behind_small 64 c.loop-rest.rest c.loop-rest.invariant.1.0), c.best_with-best.ensures.1),
-    )
+loop-rest-preserved c = (
+  c.loop-rest.invariant.0
+      ∙ walk_next c.loop-rest.rest _ _ c.loop-rest.invariant.1.0 c.loop-rest-test.true
+      ∙ rw (c.behind_first-rest.ensures, c.best_with-best.ensures.0, c.first.ensures.0),
+  (rw c.behind_first-rest.ensures (behind_small 64 c.loop-rest.rest c.loop-rest.invariant.1.0), c.best_with-best.ensures.1),
+)
 
 pub returns : goal.returns
 unfolding best_of

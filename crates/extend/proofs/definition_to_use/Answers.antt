@@ -23,20 +23,18 @@ module _ (facts reached order next : List ℕ) (size rights : ℕ) (p : Pair) (b
   best_admitted h = rw (best-anyway, ne_eqb best.left 64 h)
 
 pub returns-then-best-eq-NONE : goal.returns-then-best-eq-NONE
-returns-then-best-eq-NONE c =
-    (
-      sym
-          (none_admitted c.args.facts.now c.args.reached.now c.args.order.now c.args.next.now c.args.admitted.count c.args.admitted.rights (pair c.args.p.left c.args.p.right) _
-          c.best_readers-best.ensures.0 c.if-best-eq-NONE.true),
-      search rules,
-    )
+returns-then-best-eq-NONE c = (
+  sym
+      (none_admitted c.args.facts.now c.args.reached.now c.args.order.now c.args.next.now c.args.admitted.count c.args.admitted.rights (pair c.args.p.left c.args.p.right) _
+      c.best_readers-best.ensures.0 c.if-best-eq-NONE.true),
+  search rules,
+)
 
 pub returns : goal.returns
-returns c =
-    (
-      c.admit.ensures.0
-          ∙ sym
-          (best_admitted c.args.facts.now c.args.reached.now c.args.order.now c.args.next.now c.args.admitted.count c.args.admitted.rights (pair c.args.p.left c.args.p.right) _
-          c.best_readers-best.ensures.0 c.if-best-eq-NONE.false),
-      search rules,
-    )
+returns c = (
+  c.admit.ensures.0
+      ∙ sym
+      (best_admitted c.args.facts.now c.args.reached.now c.args.order.now c.args.next.now c.args.admitted.count c.args.admitted.rights (pair c.args.p.left c.args.p.right) _
+      c.best_readers-best.ensures.0 c.if-best-eq-NONE.false),
+  search rules,
+)

@@ -43,8 +43,7 @@ returns-then-admitted-i c =
 
 pub loop-i-preserved : goal.loop-i-preserved
 loop-i-preserved c =
-    let t = tables c.loop-i.order c.loop-i.next c.loop-i.admitted.count c.loop-i.admitted.rights in
-    (
+    let t = tables c.loop-i.order c.loop-i.next c.loop-i.admitted.count c.loop-i.admitted.rights in (
       c.loop-i.invariant.0
           ∙ ap (λ (k : ℕ). visit_tables_from k c.args.facts.now c.args.reached c.loop-i.i t) (more c.args.n c.loop-i.i c.loop-i-test.true)
           ∙ visits-more (c.args.n - (c.loop-i.i + 1)) c.args.facts.now c.args.reached c.loop-i.i t c.if-admitted-i.false

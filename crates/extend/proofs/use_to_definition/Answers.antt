@@ -21,14 +21,13 @@ takes-both facts reached definition p t l r e f low high =
     ∙ ap₂ (λ (a b : ℕ). pick (ltb a 64 && ltb b 64) (admit_paying facts reached (pair a b) t) t) e f
 
 pub returns-then-right-lt-NONE : goal.returns-then-right-lt-NONE
-returns-then-right-lt-NONE c =
-    (
-      c.admit_if_pays.ensures.0
-          ∙ takes-both c.args.facts.now c.args.reached.now c.args.definition (pair c.args.p.left c.args.p.right)
-          (tables c.args.order.now c.args.next.now c.args.admitted.count c.args.admitted.rights) c.fact-left.result c.fact-right.result
-          c.fact-left.ensures c.fact-right.ensures c.if-left-lt-NONE.true c.if-right-lt-NONE.true,
-      search rules,
-    )
+returns-then-right-lt-NONE c = (
+  c.admit_if_pays.ensures.0
+      ∙ takes-both c.args.facts.now c.args.reached.now c.args.definition (pair c.args.p.left c.args.p.right)
+      (tables c.args.order.now c.args.next.now c.args.admitted.count c.args.admitted.rights) c.fact-left.result c.fact-right.result
+      c.fact-left.ensures c.fact-right.ensures c.if-left-lt-NONE.true c.if-right-lt-NONE.true,
+  search rules,
+)
 
 pub returns-then-left-lt-NONE : goal.returns-then-left-lt-NONE
 returns-then-left-lt-NONE c = (

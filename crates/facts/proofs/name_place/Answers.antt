@@ -19,17 +19,15 @@ overflow_cast-number c =
     record { fits = omega (arith, c.slice_known-3-1.given c.args.code) }
 
 pub returns-then-number-ne0 : goal.returns-then-number-ne0
-returns-then-number-ne0 c =
-    (
-      joined_as c.args.numbers.now c.args.named.now _ (get_or c.args.numbers.now c.args.code 0) c.args.given _ c.args.i c.only.ensures c.join_word.ensures
-          ∙ sym (names_again c.args.code c.args.i c.args.numbers.now c.args.named.now c.args.given c.if-at-eq0.false c.if-at-numbers.false c.if-number-ne0.true),
-      omega arith,
-    )
+returns-then-number-ne0 c = (
+  joined_as c.args.numbers.now c.args.named.now _ (get_or c.args.numbers.now c.args.code 0) c.args.given _ c.args.i c.only.ensures c.join_word.ensures
+      ∙ sym (names_again c.args.code c.args.i c.args.numbers.now c.args.named.now c.args.given c.if-at-eq0.false c.if-at-numbers.false c.if-number-ne0.true),
+  omega arith,
+)
 
 pub returns : goal.returns
-returns c =
-    (
-      joined_as (set c.args.numbers.now c.args.code (c.args.given + 1)) c.args.named.now _ (c.args.given + 1) (c.args.given + 1) _ c.args.i c.only-2.ensures c.join_word-2.ensures
-          ∙ sym (names_first c.args.code c.args.i c.args.numbers.now c.args.named.now c.args.given c.if-at-eq0.false c.if-at-numbers.false c.if-number-ne0.false),
-      omega arith,
-    )
+returns c = (
+  joined_as (set c.args.numbers.now c.args.code (c.args.given + 1)) c.args.named.now _ (c.args.given + 1) (c.args.given + 1) _ c.args.i c.only-2.ensures c.join_word-2.ensures
+      ∙ sym (names_first c.args.code c.args.i c.args.numbers.now c.args.named.now c.args.given c.if-at-eq0.false c.if-at-numbers.false c.if-number-ne0.false),
+  omega arith,
+)

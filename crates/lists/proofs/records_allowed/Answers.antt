@@ -4,7 +4,7 @@ use Rattle.rules.specs.Rules.{obeys_rules}
 use Rattle.lists.proofs.Turns.{few, allowed_more, allowed_stop, allowed_end}
 use mathlib.Core.Path.{◌≡◌, refl, sym, ◌∙◌}
 use lib.ListN.{length, take, length-take, length-set}
-use Prim.Native.Nat.{◌-◌, ◌≤◌}
+use Prim.Native.Nat.{◌≤◌}
 use native.Mathlib.Nat.{sub-zero}
 use native.Mathlib.Omega.{arith}
 use borrow.Author.Rules.{rules}

@@ -1,6 +1,5 @@
 -- `lists::records_read` meets its contract: what remains at i are the records from there on.
 use mathlib.Core.Path.{sym, ◌∙◌}
-use Prim.Native.Nat.{◌-◌}
 use native.Mathlib.Nat.{sub-zero}
 use native.Mathlib.Omega.{arith}
 use Rattle.lists.proofs.Turns.{read_more, read_stop, read_end}

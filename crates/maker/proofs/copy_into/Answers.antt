@@ -1,6 +1,6 @@
 -- `maker::copy_into` meets its contract.
 use mathlib.Core.Path.{◌≡◌, refl, ap, ◌∙◌}
-use Prim.Native.Nat.{ℕ, ◌-◌}
+use Prim.Native.Nat.{ℕ}
 use mathlib.Core.List.{List, ◌++◌}
 use native.Mathlib.Omega.{arith}
 use lib.ListN.{get_or, set, take, drop}
@@ -12,14 +12,13 @@ pub loop-i-init : goal.loop-i-init
 loop-i-init c = (omega arith, refl, refl)
 
 pub loop-i-preserved : goal.loop-i-preserved
-loop-i-preserved c =
-    (
-      omega arith,
-      search rules,
-      ap (λ (room : List ℕ). set room c.loop-i.i (get_or c.args.out.now c.loop-i.i 0)) c.loop-i.invariant.2
-          ∙ copied_more c.args.out.now c.args.room.now c.loop-i.i
-          (omega (arith, c.requires.1, c.loop-i-test.true)) (omega (arith, c.requires.0, c.loop-i-test.true)),
-    )
+loop-i-preserved c = (
+  omega arith,
+  search rules,
+  ap (λ (room : List ℕ). set room c.loop-i.i (get_or c.args.out.now c.loop-i.i 0)) c.loop-i.invariant.2
+      ∙ copied_more c.args.out.now c.args.room.now c.loop-i.i
+      (omega (arith, c.requires.1, c.loop-i-test.true)) (omega (arith, c.requires.0, c.loop-i-test.true)),
+)
 
 pub returns : goal.returns
 returns c =

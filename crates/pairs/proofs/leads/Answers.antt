@@ -1,6 +1,5 @@
 -- `pairs::leads` meets its contract.
 use mathlib.Core.Path.{sym, ◌∙◌}
-use Prim.Native.Nat.{◌-◌}
 use native.Mathlib.Omega.{arith}
 use Rattle.pairs.proofs.Steps.{leads_all, leads_end, leads_there, leads_out, leads_on}
 use Rattle.pairs.proofs.leads.Goals as goal

@@ -3,7 +3,6 @@
 use Rattle.reader.proofs.Turns.{lengths_end, lengths_stop, lengths_more}
 use Rattle.reader.specs.Answers.{no_lengths}
 use native.Mathlib.Nat.{sub-zero}
-use Prim.Native.Nat.{◌-◌}
 use native.Mathlib.Omega.{arith}
 use mathlib.Core.Path.{sym, ◌∙◌}
 use Rattle.reader.proofs.read_lengths.Goals as goal
@@ -19,13 +18,12 @@ returns-in-Refused c =
     (sym c.read_length-next.ensures ∙ c.in-Refused.is))
 
 pub loop-i-preserved : goal.loop-i-preserved
-loop-i-preserved c =
-    (
-      c.loop-i.invariant.0,
-      omega arith,
-      c.loop-i.invariant.2 ∙ lengths_more c.args.bytes.now c.loop-i.lengths c.wide-count.result c.loop-i.i _
-          c.loop-i-test.true (sym c.read_length-next.ensures ∙ c.in-Length.is),
-    )
+loop-i-preserved c = (
+  c.loop-i.invariant.0,
+  omega arith,
+  c.loop-i.invariant.2 ∙ lengths_more c.args.bytes.now c.loop-i.lengths c.wide-count.result c.loop-i.i _
+      c.loop-i-test.true (sym c.read_length-next.ensures ∙ c.in-Length.is),
+)
 
 pub returns : goal.returns
 returns c =

@@ -4,7 +4,6 @@ use Rattle.reader.proofs.Turns.{statements_end, statements_stop, statements_more
 use Rattle.reader.specs.Answers.{no_statements}
 use lib.ListN.{take}
 use native.Mathlib.Nat.{sub-zero}
-use Prim.Native.Nat.{◌-◌}
 use native.Mathlib.Omega.{arith}
 use mathlib.Core.Path.{sym, ◌∙◌}
 use Rattle.reader.proofs.read_statements.Goals as goal
@@ -20,14 +19,13 @@ returns-in-Refused c =
     c.loop-i.start _ c.loop-i-test.true (sym c.read_next-next.ensures ∙ c.in-Refused.is))
 
 pub loop-i-preserved : goal.loop-i-preserved
-loop-i-preserved c =
-    (
-      c.loop-i.invariant.0,
-      omega arith,
-      c.loop-i.invariant.2 ∙ statements_more c.args.header c.args.lengths.now c.args.header.variables
-          (take c.args.header.arrays c.args.lengths.now) c.args.bytes.now c.loop-i.statements c.wide-count.result c.loop-i.i
-          c.loop-i.start _ _ c.loop-i-test.true (sym c.read_next-next.ensures ∙ c.in-Read.is),
-    )
+loop-i-preserved c = (
+  c.loop-i.invariant.0,
+  omega arith,
+  c.loop-i.invariant.2 ∙ statements_more c.args.header c.args.lengths.now c.args.header.variables
+      (take c.args.header.arrays c.args.lengths.now) c.args.bytes.now c.loop-i.statements c.wide-count.result c.loop-i.i
+      c.loop-i.start _ _ c.loop-i-test.true (sym c.read_next-next.ensures ∙ c.in-Read.is),
+)
 
 pub returns-then-start-bytes : goal.returns-then-start-bytes
 returns-then-start-bytes c =

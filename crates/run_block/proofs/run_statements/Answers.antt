@@ -1,7 +1,7 @@
 -- `run_block::run_statements` meets its contract. What remains at i: the statements from i on, on the contents as they are then.
 use borrow.Author.Rules.{rules}
 use mathlib.Core.Path.{◌≡◌, ◌∙◌, ap, sym, refl}
-use Prim.Native.Nat.{◌+◌, ◌-◌, zero-le}
+use Prim.Native.Nat.{◌+◌, zero-le}
 use native.Mathlib.Omega.{arith}
 use lib.ListN.{length, take, drop}
 use Rattle.basics.specs.Lists.{each}

@@ -8,7 +8,7 @@ use mathlib.Core.List.{List}
 use Prim.Native.Nat.{ℕ, suc, ◌+◌, ◌-◌, ◌≤◌, ◌<◌, zero-le}
 use native.Mathlib.Nat.{sub-zero}
 use native.Mathlib.Omega.{arith}
-use lib.ListN.{length, drop, get_or, length-map, length-set, length-replicate}
+use lib.ListN.{length, drop, get_or, length-set, length-replicate}
 use Rattle.basics.proofs.Counting.{more, none_left}
 use Rattle.meaning.specs.Block.{declared}
 use Rattle.meaning.specs.List.{read_records}

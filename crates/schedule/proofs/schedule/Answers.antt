@@ -11,18 +11,17 @@ use Rattle.schedule.proofs.Turns.{size_grows, steps_more, steps_over, steps_done
 use Rattle.schedule.proofs.schedule.Goals as goal
 
 pub loop-i-init : goal.loop-i-init
-loop-i-init c =
-    (
-      omega arith,
-      omega arith,
-      refl,
-      refl,
-      refl,
-      ap
-          (λ (k : ℕ). steps_from k c.args.direct.now
-          (stage c.args.units.now c.args.needs.now c.args.order.now c.args.waiting nobody 0))
-          (sym (sub-zero (c.args.n + c.args.n))),
-    )
+loop-i-init c = (
+  omega arith,
+  omega arith,
+  refl,
+  refl,
+  refl,
+  ap
+      (λ (k : ℕ). steps_from k c.args.direct.now
+      (stage c.args.units.now c.args.needs.now c.args.order.now c.args.waiting nobody 0))
+      (sym (sub-zero (c.args.n + c.args.n))),
+)
 
 pub returns-then-progress-eq0 : goal.returns-then-progress-eq0
 unfolding scheduled_tables
@@ -35,8 +34,7 @@ returns-then-progress-eq0 c =
 pub loop-i-preserved : goal.loop-i-preserved
 loop-i-preserved c =
     let here = stage_of c.loop-i.units c.loop-i.needs c.loop-i.order c.loop-i.progress in
-    let below : c.loop-i.i < c.args.n + c.args.n = c.loop-i-test.true in
-    (
+    let below : c.loop-i.i < c.args.n + c.args.n = c.loop-i-test.true in (
       omega arith,
       omega (arith, c.loop-i.invariant.1, size_grows c.args.direct.now here, ap (λ (s : Stage). s.size) c.step-progress.ensures),
       search rules,

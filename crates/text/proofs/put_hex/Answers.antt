@@ -1,5 +1,4 @@
 -- `put_hex` meets its contract: each turn puts the two letters of the next byte.
-use Prim.Native.Nat.{◌-◌}
 use Rattle.text.proofs.Putting.{start, next, finish}
 use Rattle.text.proofs.Spelling.{hex_from, hex_next, hex_none}
 use Rattle.text.proofs.put_hex.Goals as goal

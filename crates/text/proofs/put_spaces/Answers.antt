@@ -1,5 +1,4 @@
 -- `put_spaces` meets its contract: each turn puts the next space.
-use Prim.Native.Nat.{◌-◌}
 use native.Mathlib.Nat.{sub-zero}
 use mathlib.Core.Path.{ap}
 use Rattle.text.specs.Text.{spaces}

@@ -1,5 +1,5 @@
 -- `put_words` meets its contract: each turn puts the next byte.
-use Prim.Native.Nat.{ℕ, ◌-◌}
+use Prim.Native.Nat.{ℕ}
 use lib.ListN.{drop}
 use Rattle.text.proofs.Putting.{start, next, finish, drop_next, drop_none}
 use Rattle.text.proofs.put_words.Goals as goal

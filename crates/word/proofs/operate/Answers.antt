@@ -1,6 +1,5 @@
 -- `word::operate` meets its contract.
 use Rattle.std.proofs.Common.{sym, arith, rules}
-use Rattle.basics.proofs.Counting.{above}
 use Rattle.meaning.specs.Machine.{operate}
 use Rattle.word.proofs.Difference.{difference}
 use Rattle.word.proofs.Past.{past_operations}

@@ -1,5 +1,4 @@
 -- `put_row` meets its contract: each turn puts the next cell.
-use Prim.Native.Nat.{◌-◌}
 use Rattle.text.proofs.Putting.{start, next, finish, reads_as}
 use Rattle.account_list.proofs.Slots.{row_from, row_next, row_none, row_whole}
 use Rattle.account_list.proofs.lanes.put_row.Goals as goal

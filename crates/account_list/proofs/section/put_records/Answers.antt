@@ -1,7 +1,7 @@
 -- `put_records` meets its contract: each turn puts the line of the next record.
 use borrow.Author.Rules.{rules}
 use mathlib.Core.Path.{◌≡◌, refl, sym, ap, ◌∙◌}
-use Prim.Native.Nat.{ℕ, ◌-◌}
+use Prim.Native.Nat.{ℕ}
 use lib.ListN.{length, take}
 use Rattle.basics.proofs.Mapped.{unmapped}
 use Rattle.meaning.specs.Block.{statement as statement_of}

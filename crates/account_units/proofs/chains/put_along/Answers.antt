@@ -1,5 +1,4 @@
 -- `chains::put_along` meets its contract: each turn puts a statement and goes on to its partner.
-use Prim.Native.Nat.{◌-◌}
 use mathlib.Core.Path.{◌∙◌}
 use Rattle.text.proofs.Putting.{same_length as keeps}
 use Rattle.account_units.proofs.Turns.{along_start, along_next, along_ends, along_full}

@@ -1,5 +1,4 @@
 -- `chains::put_chain_lines` meets its contract: each turn puts the chain that begins at the next statement, if one does.
-use Prim.Native.Nat.{◌-◌}
 use Rattle.account_units.specs.InTables.{chain_line}
 use Rattle.account_units.proofs.Telling.{tell, tell_next, tell_finish}
 use Rattle.account_units.proofs.chains.put_chain_lines.Goals as goal

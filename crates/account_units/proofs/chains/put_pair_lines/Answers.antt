@@ -1,5 +1,4 @@
 -- `chains::put_pair_lines` meets its contract: each turn puts the next pair.
-use Prim.Native.Nat.{◌-◌}
 use Rattle.account_units.specs.InTables.{pair_line}
 use Rattle.account_units.proofs.Telling.{tell, tell_next, tell_finish}
 use Rattle.account_units.proofs.chains.put_pair_lines.Goals as goal

@@ -1,6 +1,6 @@
 -- `numbers::put_lanes` meets its contract: each turn puts the number in the next lane.
 use mathlib.Core.Path.{◌≡◌}
-use Prim.Native.Nat.{ℕ, ◌-◌}
+use Prim.Native.Nat.{ℕ}
 use native.Mathlib.Omega.{arith}
 use lib.ListN.{length, drop}
 use Rattle.basics.proofs.Mapped.{unmapped}

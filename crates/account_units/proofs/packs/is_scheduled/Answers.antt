@@ -1,6 +1,5 @@
 -- `packs::is_scheduled` meets its contract. What remains: the words that were not looked at.
 use mathlib.Core.Path.{sym, ◌∙◌}
-use Prim.Native.Nat.{◌-◌}
 use native.Mathlib.Omega.{arith}
 use Rattle.account_units.proofs.Turns.{among_start, among_found, among_further, among_none}
 use Rattle.account_units.proofs.packs.is_scheduled.Goals as goal
@@ -14,11 +13,10 @@ returns-then-word_at-word c =
     sym (c.loop-i.invariant.1 ∙ among_found c.args.count c.args.scheduled.now c.args.word c.loop-i.i c.word_at.result c.loop-i-test.true c.word_at.ensures c.if-word_at-word.true)
 
 pub loop-i-preserved : goal.loop-i-preserved
-loop-i-preserved c =
-    (
-      omega arith,
-      c.loop-i.invariant.1 ∙ among_further c.args.count c.args.scheduled.now c.args.word c.loop-i.i c.word_at.result c.loop-i-test.true c.word_at.ensures c.if-word_at-word.false,
-    )
+loop-i-preserved c = (
+  omega arith,
+  c.loop-i.invariant.1 ∙ among_further c.args.count c.args.scheduled.now c.args.word c.loop-i.i c.word_at.result c.loop-i-test.true c.word_at.ensures c.if-word_at-word.false,
+)
 
 pub returns : goal.returns
 returns c =

@@ -1,5 +1,4 @@
 -- `packs::put_dissolved_lines` meets its contract: each turn puts the pack that goes by the next number, if it was dissolved.
-use Prim.Native.Nat.{◌-◌}
 use Rattle.account_units.specs.InTables.{dissolved_line}
 use Rattle.account_units.proofs.Telling.{tell, tell_next, tell_finish}
 use Rattle.account_units.proofs.packs.put_dissolved_lines.Goals as goal

@@ -1,5 +1,4 @@
 -- `packs::put_pack_lines` meets its contract: each turn puts the pack that goes by the next number, if one does.
-use Prim.Native.Nat.{◌-◌}
 use Rattle.account_units.specs.InTables.{pack_line}
 use Rattle.account_units.proofs.Telling.{tell, tell_next, tell_finish}
 use Rattle.account_units.proofs.packs.put_pack_lines.Goals as goal

@@ -1,5 +1,4 @@
 -- `packs::put_schedule_lines` meets its contract: each turn puts the next unit.
-use Prim.Native.Nat.{◌-◌}
 use mathlib.Core.Path.{ap}
 use lib.ListN.{get_or}
 use Rattle.units.specs.declared.Unit.{Unit as Lanes}

@@ -1,6 +1,5 @@
 -- `same::same_numbers` meets its contract: up to i the numbers are the same, so what remains is compared from there on.
 use mathlib.Core.Path.{◌≡◌, refl, sym, ◌∙◌}
-use Prim.Native.Nat.{◌-◌}
 use native.Mathlib.Omega.{arith}
 use lib.ListN.{length}
 use Rattle.beside.proofs.Comparison.{same_many, same_more, same_stop, same_end}

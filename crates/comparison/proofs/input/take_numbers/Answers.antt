@@ -1,6 +1,5 @@
 -- `input::take_numbers` meets its contract: each turn takes the next number.
 use mathlib.Core.Path.{◌≡◌, refl, sym, ◌∙◌}
-use Prim.Native.Nat.{◌-◌}
 use native.Mathlib.Omega.{arith}
 use lib.ListN.{length, length-set}
 use Rattle.comparison.proofs.Numbers.{taken_first, taken_next, taken_last}

@@ -1,6 +1,5 @@
 -- `put::put_statements` meets its contract: each turn stores the ten numbers of the next statement.
 use mathlib.Core.Path.{◌≡◌, ◌∙◌, ap}
-use Prim.Native.Nat.{◌-◌}
 use mathlib.Core.List.{List, map}
 use native.Mathlib.Omega.{arith}
 use borrow.Author.Rules.{rules}

@@ -1,6 +1,6 @@
 -- `taken::lengths_of` meets its contract: each turn sets one slot.
 use mathlib.Core.Path.{◌∙◌, ap}
-use Prim.Native.Nat.{ℕ, ◌-◌}
+use Prim.Native.Nat.{ℕ}
 use lib.ListN.{length-replicate}
 use Rattle.table.specs.Taken.{length_of}
 use Rattle.table.proofs.Filled.{start, next, all_filled}

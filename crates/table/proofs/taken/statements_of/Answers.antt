@@ -1,5 +1,4 @@
 -- `taken::statements_of` meets its contract: each turn sets one slot.
-use Prim.Native.Nat.{◌-◌}
 use lib.ListN.{length-replicate}
 use Rattle.meaning.specs.declared.Statement.{Statement}
 use Rattle.meaning.specs.Block.{blank}

@@ -1,6 +1,5 @@
 -- `bytes::write_lengths` meets its contract: each turn stores the two bytes of the next length.
 use mathlib.Core.Path.{◌≡◌, refl}
-use Prim.Native.Nat.{◌-◌}
 use native.Mathlib.Nat.{div-one}
 use native.Mathlib.Numerals.{add-one}
 use native.Mathlib.Omega.{arith}
@@ -39,8 +38,7 @@ pub shape_of-room : goal.shape_of-room
 shape_of-room c = c.loop-i.invariant.long
 
 pub returns : goal.returns
-returns c =
-    (
-      behind (bytes_of 2) c.args.block.lengths c.args.block.arrays c.loop-i.invariant (omega arith),
-      all_stored (bytes_of 2) c.args.block.lengths c.args.block.arrays c.loop-i.invariant (omega arith),
-    )
+returns c = (
+  behind (bytes_of 2) c.args.block.lengths c.args.block.arrays c.loop-i.invariant (omega arith),
+  all_stored (bytes_of 2) c.args.block.lengths c.args.block.arrays c.loop-i.invariant (omega arith),
+)

@@ -34,8 +34,7 @@ shape_of-room c =
     ∙ simp length-set
 
 pub returns : goal.returns
-returns c =
-    (
-      record_end c.args.statement c.args.room.now c.args.at c.write_place-behind_destination.ensures.0 c.write_operand-behind_left.ensures.0 c.write_operand.ensures.0,
-      record_stored c.args.statement c.args.room.now c.args.at c.statement_width.ensures c.write_place-behind_destination.ensures.0 c.write_place-behind_destination.ensures.1 c.write_operand-behind_left.ensures.0 c.write_operand-behind_left.ensures.1 c.write_operand.ensures.1,
-    )
+returns c = (
+  record_end c.args.statement c.args.room.now c.args.at c.write_place-behind_destination.ensures.0 c.write_operand-behind_left.ensures.0 c.write_operand.ensures.0,
+  record_stored c.args.statement c.args.room.now c.args.at c.statement_width.ensures c.write_place-behind_destination.ensures.0 c.write_place-behind_destination.ensures.1 c.write_operand-behind_left.ensures.0 c.write_operand-behind_left.ensures.1 c.write_operand.ensures.1,
+)

@@ -1,6 +1,5 @@
 -- `bytes::write_statements` meets its contract: each turn stores the next record of the run.
 use mathlib.Core.Path.{◌≡◌}
-use Prim.Native.Nat.{◌-◌}
 use native.Mathlib.Omega.{arith}
 use borrow.Author.Rules.{rules}
 use lib.ListN.{length}
@@ -27,8 +26,7 @@ pub shape_of-room : goal.shape_of-room
 shape_of-room c = c.loop-i.invariant.long
 
 pub returns : goal.returns
-returns c =
-    (
-      behind record_bytes c.args.block.statements c.args.block.count c.loop-i.invariant (omega arith),
-      all_stored record_bytes c.args.block.statements c.args.block.count c.loop-i.invariant (omega arith),
-    )
+returns c = (
+  behind record_bytes c.args.block.statements c.args.block.count c.loop-i.invariant (omega arith),
+  all_stored record_bytes c.args.block.statements c.args.block.count c.loop-i.invariant (omega arith),
+)

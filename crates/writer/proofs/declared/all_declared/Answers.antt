@@ -1,6 +1,5 @@
 -- `declared::all_declared` meets its contract: all statements name what is declared where those do that are still to be met.
 use mathlib.Core.Path.{◌≡◌, refl, sym, ◌∙◌}
-use Prim.Native.Nat.{◌-◌}
 use native.Mathlib.Omega.{arith}
 use borrow.Author.Rules.{rules}
 use lib.ListN.{length, take}

@@ -1,6 +1,5 @@
 -- `fits::all_well_formed` meets its contract: all statements are well formed where those are that are still to be met.
 use mathlib.Core.Path.{◌≡◌, refl, sym, ◌∙◌}
-use Prim.Native.Nat.{◌-◌}
 use native.Mathlib.Omega.{arith}
 use borrow.Author.Rules.{rules}
 use lib.ListN.{length}

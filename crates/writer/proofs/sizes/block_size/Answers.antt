@@ -1,6 +1,5 @@
 -- `sizes::block_size` meets its contract: what is counted and the bytes of the records still to be met are the whole.
 use mathlib.Core.Path.{◌≡◌, refl, ap}
-use Prim.Native.Nat.{◌-◌}
 use native.Mathlib.Omega.{arith}
 use borrow.Author.Rules.{rules}
 use lib.ListN.{length, get_or}
