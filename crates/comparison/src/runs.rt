@@ -9,7 +9,7 @@ ghost use Rattle.beside.specs.Beside.{answer, side_by_side};
 ghost use Rattle.text.specs.Puts.{Puts};
 ghost use Rattle.comparison.specs.Input.{numbers_in};
 ghost use Rattle.comparison.specs.Lines.{run_line, verdict, beside_text, compared_on};
-ghost use Rattle.comparison.specs.Compared.{room as noList, sized_text};
+ghost use Rattle.comparison.specs.Compared.{room as no_list, sized_text};
 
 use beside::Beside;
 
@@ -195,7 +195,7 @@ fn put_declared(
     requires lengths_len_bound { length lengths.now ≤ 8 }
     requires lengths_value { all length_fits lengths.now ≡ true }
     requires variables_bound { (variables ≤ 32) × (cells ≤ 2048) }
-    ensures { Puts (compared_on lengths.now live bytes.now noList
+    ensures { Puts (compared_on lengths.now live bytes.now no_list
         (lent (numbers_in variables variable_bytes.now) (numbers_in cells cell_bytes.now)))
         out.old 0 out.new result }
 {

@@ -11,7 +11,7 @@ use Rattle.meaning.specs.declared.Statement.{Statement}
 use Rattle.meaning.specs.Block.{statement, left, right}
 use Rattle.meaning.specs.List.{O}
 use Rattle.meaning.specs.Schedule.{with_unit}
-use Rattle.meaning.specs.Emission.{Emitted, row_start, next, tuple_at, destinations, fetch_tuple, fetched_in, fetch_right, right_in, operation_of, emit_operation, operated, store_tuple as storeAll, homes_from, landed, emit_pack}
+use Rattle.meaning.specs.Emission.{Emitted, row_start, next, tuple_at, destinations, fetch_tuple, fetched_in, fetch_right, right_in, operation_of, emit_operation, operated, store_tuple as store_all, homes_from, landed, emit_pack}
 use Rattle.theorems.specs.Units.{Every}
 use Rattle.theorems.specs.Steps.{holding, places_of, stores, ended_by, away_from}
 use Rattle.theorems.proofs.Landing.{each_written, tuple_stored}
@@ -47,7 +47,7 @@ pack_is : (ss : List Statement) (unit : List ℕ) (e : Emitted) → emit_pack ss
 unfolding emit_pack landed
 pack_is ss unit e =
     let o = operated ss unit e in
-    let stored = storeAll (next o) (destinations ss unit) o in
+    let stored = store_all (next o) (destinations ss unit) o in
     ap
     (λ (x : Emitted). record {
       instructions = x.instructions;

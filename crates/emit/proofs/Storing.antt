@@ -9,7 +9,7 @@ use Rattle.meaning.specs.declared.Operand.{Operand}
 use Rattle.meaning.specs.declared.Operand.TheVariants.{Nothing, Constant, Held}
 use Rattle.meaning.specs.declared.Statement.{Statement}
 use Rattle.meaning.specs.List.{Instruction, W, D}
-use Rattle.meaning.specs.Emission.{Emitted, emit, are_in_row, row_start, store_lane, store_each, store_tuple as storeAll}
+use Rattle.meaning.specs.Emission.{Emitted, emit, are_in_row, row_start, store_lane, store_each, store_tuple as store_all}
 use Rattle.theorems.specs.Steps.{stores}
 use Rattle.theorems.proofs.Landing.{tuple_stored}
 use Rattle.codes.specs.Codes.{operand_code}
@@ -59,8 +59,8 @@ module _ (base : List ℕ) (ss : List Statement) (r : ℕ) where
       (lane_stored 1 b e1 l1 (and_left (operand_fits b) _ fb) (lane_stored 0 a e l (and_left (operand_fits a) _ fit) h)))
 
   all_stored : (os : List Operand) (e : Emitted) (l : Listing) → Laned os → all operand_fits os ≡ true → Writes base ss e l
-      → Writes base ss (storeAll r os e) (store_tuple r (tuple_of os) l)
-  unfolding storeAll store_tuple
+      → Writes base ss (store_all r os e) (store_tuple r (tuple_of os) l)
+  unfolding store_all store_tuple
   all_stored os e l shape fit h = by (are_in_row os) (row_start os) (row_codes os shape fit) (row_as os shape fit)
     where
       by : (t : Bool) (row : Option (ℕ × ℕ)) → tuple_in_row (tuple_of os) ≡ t → RowAs os t row

@@ -26,7 +26,7 @@ use Rattle.pairs.proofs.Tables.{admit_tables, every_number, tables_size, order_a
 use Rattle.estimate.specs.Costs.{loss_of, gain_of}
 use Rattle.estimate.proofs.Definitions.{Defines, defines_below, definition_defines, definitions_column, definition_at, definitions_at}
 use Rattle.estimate.proofs.Estimates.{same_gain, same_loss}
-use Rattle.extend.specs.Visits.{Found, admit_paying, admit_definitions as admitColumn, best_of, admit_found, admit_readers, visit_tables, visit_tables_from}
+use Rattle.extend.specs.Visits.{Found, admit_paying, admit_definitions as admit_column, best_of, admit_found, admit_readers, visit_tables, visit_tables_from}
 use Rattle.extend.proofs.Readers.{Tracks, none_left, none_right, tracks_readers}
 
 -- a choice between tables is one between lists
@@ -73,7 +73,7 @@ module _ (ss : List Statement) (facts reached : List ℕ) (few : length ss ≤ 6
 
   -- use to definition
   to_definition : (p : Pair) → p.left < length ss → p.right < length ss → (position : Position)
-      → admitColumn facts reached (definitions_column position) p (tables_of pairs) ≡ tables_of (use_to_definition ss p position pairs)
+      → admit_column facts reached (definitions_column position) p (tables_of pairs) ≡ tables_of (use_to_definition ss p position pairs)
   unfolding use_to_definition definitions
   to_definition p low high position =
       ap₂ pays_both (definitions_at ss facts defined position p.left low) (definitions_at ss facts defined position p.right high)
@@ -105,7 +105,7 @@ module _ (ss : List Statement) (facts reached : List ℕ) (few : length ss ≤ 6
   visits_one p low high pairs known =
       let first : Admitted ss (use_to_definition ss p left pairs) = use_to_definition_lem ss p left pairs known in
       let second : Admitted ss (use_to_definition ss p right (use_to_definition ss p left pairs)) = use_to_definition_lem ss p right (use_to_definition ss p left pairs) first in
-      ap (λ (t : Tables). admit_readers facts reached p (admitColumn facts reached 384 p t)) (to_definition ss facts reached few defined pairs (told pairs known) p low high left)
+      ap (λ (t : Tables). admit_readers facts reached p (admit_column facts reached 384 p t)) (to_definition ss facts reached few defined pairs (told pairs known) p low high left)
       ∙ ap (admit_readers facts reached p)
       (to_definition ss facts reached few defined (use_to_definition ss p left pairs) (told (use_to_definition ss p left pairs) first) p low high right)
       ∙ to_use ss facts reached few defined (use_to_definition ss p right (use_to_definition ss p left pairs))

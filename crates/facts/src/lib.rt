@@ -10,7 +10,7 @@
 
 ghost use Rattle.std.specs.Prelude.{◌≡◌, ◌+◌, ◌≤◌, ◌<◌, get_or};
 ghost use Rattle.facts.specs.Facts.{fact_at, state_facts, stated_facts};
-ghost use Rattle.facts.specs.Places.{named_tables, name_place, name_places, naming as namingThis};
+ghost use Rattle.facts.specs.Places.{named_tables, name_place, name_places, naming as naming_this};
 
 use meaning::{Block, Statement};
 
@@ -133,7 +133,7 @@ pub fn name_places(
 
 // The statements that name what the code stands for, of a table that `name_places` filled.
 pub fn naming(numbers: &[u8], named: &[u64], code: u64) -> u64
-    ensures { result ≡ namingThis numbers.now named.now code }
+    ensures { result ≡ naming_this numbers.now named.now code }
 {
     rows::word_at(named, place_number(numbers, code))
 }

@@ -93,8 +93,8 @@ list_of none = refused 8
 list_of (some list) = done list
 
 unfoldable pub run_list_call : List ℕ → List ℕ → Contents → Ran
-run_list_call blockBytes' bytes m =
+run_list_call block_bytes' bytes m =
     ran m
-    (and_then (sized m (read_block blockBytes')) λ b.
+    (and_then (sized m (read_block block_bytes')) λ b.
     and_then (list_of (read_list bytes)) λ list.
     demand (allowed b [] list) 9 (done (list_price b.statements list, run_list b list m)))

@@ -5,7 +5,7 @@
 #![tactic(auto)]
 
 ghost use Rattle.std.specs.Prelude.{◌≡◌, ◌<◌};
-ghost use Rattle.registers.specs.Table.{register_at, set_register, is_current, holds_tuple, serves_at, holder_from, endings as endingsOf, hold_tuple};
+ghost use Rattle.registers.specs.Table.{register_at, set_register, is_current, holds_tuple, serves_at, holder_from, endings as endings_of, hold_tuple};
 
 pub const REGISTERS: usize = 96;
 
@@ -109,7 +109,7 @@ pub fn holder(registers: &[u64], count: u8, done: u64, tuple: Tuple) -> usize
 
 // The statements not yet done that write one of the tuple's places.
 fn endings(numbers: &[u8], writers: &[u64], tuple: Tuple, done: u64) -> u64
-    ensures { result ≡ endingsOf numbers.now writers.now tuple done }
+    ensures { result ≡ endings_of numbers.now writers.now tuple done }
 {
     let first = facts::naming(numbers, writers, tuple.lanes[0])
         | facts::naming(numbers, writers, tuple.lanes[1]);

@@ -5,7 +5,7 @@
 
 ghost use Rattle.std.specs.Prelude.{◌≡◌, ◌<◌, ◌≤◌, ◌-◌, ◌^◌, ◌%◌, get_or, set as replaced};
 ghost use Rattle.std.specs.Int.Count.{count_trailing_zeros};
-ghost use Rattle.basics.specs.Sets.{only as onlyThis, join, has as holds};
+ghost use Rattle.basics.specs.Sets.{only as only_this, join, has as holds};
 ghost use Rattle.rows.specs.Walk.{behind_first, highest};
 
 // No statement has this number.
@@ -13,7 +13,7 @@ pub const NONE: usize = 64;
 
 pub fn only(i: usize) -> u64
     requires { i < 64 }
-    ensures { result ≡ onlyThis i }
+    ensures { result ≡ only_this i }
 {
     1u64 << i
 }

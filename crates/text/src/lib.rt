@@ -6,7 +6,7 @@
 
 ghost use Rattle.std.specs.Prelude.{[], ◌∷◌, ◌/◌, ◌%◌, ◌<◌, ◌-◌, ◌≡◌, length};
 ghost use Rattle.text.specs.Puts.{Puts};
-ghost use Rattle.text.specs.Text.{letter as letterOf, spelled, decimal, field, hex, spaces, column};
+ghost use Rattle.text.specs.Text.{letter as letter_of, spelled, decimal, field, hex, spaces, column};
 
 // One byte.
 pub fn put(out: &mut [u8], at: usize, byte: u8) -> usize
@@ -34,7 +34,7 @@ pub fn put_words(out: &mut [u8], at: usize, words: &[u8]) -> usize
 
 fn letter(digit: u64) -> u8
     requires { digit < 16 }
-    ensures { result ≡ letterOf digit }
+    ensures { result ≡ letter_of digit }
 {
     if digit < 10 {
         return 48 + digit as u8;
@@ -74,7 +74,7 @@ pub fn put_field(out: &mut [u8], at: usize, n: u64, end: u8) -> usize
 
 // One byte in hexadecimal.
 fn put_pair(out: &mut [u8], at: usize, byte: u8) -> usize
-    ensures { Puts (letterOf (byte / 16) ∷ letterOf (byte % 16) ∷ []) out.old at out.new result }
+    ensures { Puts (letter_of (byte / 16) ∷ letter_of (byte % 16) ∷ []) out.old at out.new result }
 {
     let n = byte as u64;
     let high = letter(n / 16);

@@ -14,7 +14,7 @@ use Rattle.meaning.specs.List.{Instruction, list_price, list_bytes, read_list, a
 use Rattle.meaning.specs.Card.{run_list}
 use Rattle.meaning.specs.Choice.{scheduled_units, chosen_list}
 use Rattle.meaning.specs.Calls.{ran, list_of, run_block_call, run_list_call}
-use Rattle.theorems.specs.Memory.{Memory, ran as ranOver, at_one_stroke}
+use Rattle.theorems.specs.Memory.{Memory, ran as ran_over, at_one_stroke}
 use Rattle.theorems.specs.Units.{Units}
 use Rattle.theorems.proofs.Bytes.{is_byte}
 use Rattle.theorems.proofs.Readable.{done_readable, done_fits}
@@ -62,7 +62,7 @@ pub record Faithful (bytes : List ℕ) (b : Block) (m : Contents) (list : List I
 -- The list that is chosen for a block that reads is faithful to it, on all contents of the right size.
 pub chosen_faithful : (bytes : List ℕ) (b : Block) (m : Contents) → all is_byte bytes ≡ true → read_block bytes ≡ done b → right_size b m ≡ true
     → Units b.statements (scheduled_units b.statements)
-    → ((start : Memory) → each (at_one_stroke b.statements) (scheduled_units b.statements) start ≡ each ranOver b.statements start)
+    → ((start : Memory) → each (at_one_stroke b.statements) (scheduled_units b.statements) start ≡ each ran_over b.statements start)
     → Faithful bytes b m (chosen_list b)
 chosen_faithful bytes b m are e right u runs =
     let readable = done_readable bytes b e in

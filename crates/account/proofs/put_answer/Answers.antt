@@ -10,12 +10,12 @@ use Rattle.account.proofs.put_answer.Goals as goal
 
 pub put_list-behind_list-requires : goal.put_list-behind_list-requires
 put_list-behind_list-requires c =
-    size_fits c.args.bytes.now _ c.requires (are_bytes c.args.bytes.now (λ i. omega (arith, c.shared_slice_known-1.given i))) _ (omega (arith, buffer_long)) _ _ c.make_list-made.ensures
+    size_fits c.args.bytes.now _ c.requires (are_bytes c.args.bytes.now (λ i. omega (arith, c.type_inv.bytes i))) _ (omega (arith, buffer_long)) _ _ c.make_list-made.ensures
 
 pub returns : goal.returns
 unfolding answer_told
 returns c =
-    let are = are_bytes c.args.bytes.now (λ i. omega (arith, c.shared_slice_known-1.given i)) in
+    let are = are_bytes c.args.bytes.now (λ i. omega (arith, c.type_inv.bytes i)) in
     both
     (both c.put_words-behind_heading.ensures
     (reads_as c.put_list-behind_list.ensures (list_told c.args.bytes.now _ c.requires are _ (omega (arith, buffer_long)) _ _ c.make_list-made.ensures)))

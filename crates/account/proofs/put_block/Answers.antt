@@ -8,7 +8,7 @@ use Rattle.account.proofs.put_block.Goals as goal
 
 pub put_units-behind_units-requires : goal.put_units-behind_units-requires
 put_units-behind_units-requires c =
-    read_legal c.args.bytes.now _ c.requires (are_bytes c.args.bytes.now (λ i. omega (arith, c.shared_slice_known-1.given i)))
+    read_legal c.args.bytes.now _ c.requires (are_bytes c.args.bytes.now (λ i. omega (arith, c.type_inv.bytes i)))
 
 pub returns : goal.returns
 unfolding block_told

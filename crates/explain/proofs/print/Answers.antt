@@ -5,15 +5,15 @@ use Rattle.explain.proofs.print.Goals as goal
 
 pub returns-then-input-gt4096 : goal.returns-then-input-gt4096
 returns-then-input-gt4096 c =
-    let all = too_many c.args.input.now c.args.out.now (λ i. omega (arith, c.shared_slice_known-1.given i)) c.requires c.if-input-gt4096.true c.put_words.ensures in
+    let all = too_many c.args.input.now c.args.out.now (λ i. omega (arith, c.type_inv.input i)) c.requires c.if-input-gt4096.true c.put_words.ensures in
     record { out_after = all.0; upper_bound = all.1 }
 
 pub returns-then-input-eq0 : goal.returns-then-input-eq0
 returns-then-input-eq0 c =
-    let all = no_input c.args.input.now c.args.out.now (λ i. omega (arith, c.shared_slice_known-1.given i)) c.requires c.if-input-gt4096.false c.if-input-eq0.true c.put_account-behind.ensures c.put_words-then-input-eq0.ensures in
+    let all = no_input c.args.input.now c.args.out.now (λ i. omega (arith, c.type_inv.input i)) c.requires c.if-input-gt4096.false c.if-input-eq0.true c.put_account-behind.ensures c.put_words-then-input-eq0.ensures in
     record { out_after = all.0; upper_bound = all.1 }
 
 pub returns : goal.returns
 returns c =
-    let all = some_input c.args.input.now c.args.out.now (λ i. omega (arith, c.shared_slice_known-1.given i)) c.requires c.if-input-gt4096.false c.if-input-eq0.false c.put_account-behind.ensures in
+    let all = some_input c.args.input.now c.args.out.now (λ i. omega (arith, c.type_inv.input i)) c.requires c.if-input-gt4096.false c.if-input-eq0.false c.put_account-behind.ensures in
     record { out_after = all.0; upper_bound = all.1 }

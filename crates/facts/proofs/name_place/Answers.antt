@@ -16,7 +16,7 @@ returns-then-at-eq0 c =
 
 pub overflow_cast-number : goal.overflow_cast-number
 overflow_cast-number c =
-    record { fits = omega (arith, c.slice_known-3-1.given c.args.code) }
+    record { fits = omega (arith, c.type_inv.numbers c.args.code) }
 
 pub returns-then-number-ne0 : goal.returns-then-number-ne0
 returns-then-number-ne0 c = (

@@ -1,4 +1,5 @@
 -- `instructions::read_instruction` meets its contract: by its code.
+use native.Mathlib.Omega.{arith}
 use Rattle.instructions.proofs.Codes.{by_code, eight_up, unknown_code}
 use mathlib.Core.Path.{sym, ◌∙◌}
 use Rattle.instructions.proofs.read_instruction.Goals as goal
@@ -31,11 +32,11 @@ pub returns-in_default : goal.returns-in_default
 returns-in_default c =
     unknown_code c.args.bytes.now c.field.result c.field.ensures
     (eight_up c.field.result
-    c.in_default.in_default-own.rest.0.0.0.0.0.0.0.1
-    c.in_default.in_default-own.rest.0.0.0.0.0.0.1
-    c.in_default.in_default-own.rest.0.0.0.0.0.1
-    c.in_default.in_default-own.rest.0.0.0.0.1
-    c.in_default.in_default-own.rest.0.0.0.1
-    c.in_default.in_default-own.rest.0.0.1
-    c.in_default.in_default-own.rest.0.1
-    c.in_default.in_default-own.rest.1)
+    (omega arith)
+    (omega arith)
+    (omega arith)
+    (omega arith)
+    (omega arith)
+    (omega arith)
+    (omega arith)
+    (omega arith))

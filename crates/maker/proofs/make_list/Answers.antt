@@ -14,7 +14,7 @@ returns-then-status-ne0 c =
 
 pub make-requires : goal.make-requires
 make-requires c =
-    read_legal c.args.bytes.now _ (are_bytes c.args.bytes.now (λ i. omega (arith, c.shared_slice_known-1.given i)))
+    read_legal c.args.bytes.now _ (are_bytes c.args.bytes.now (λ i. omega (arith, c.type_inv.bytes i)))
     (sym (ap (λ (r : BlockRead). r.status) c.read_block-read.ensures) ∙ c.if-status-ne0.false) (sym (ap (λ (r : BlockRead). r.block) c.read_block-read.ensures))
 
 pub returns : goal.returns

@@ -1,4 +1,5 @@
 -- `put_operation` meets its contract: each number has its sign.
+use native.Mathlib.Omega.{arith}
 use mathlib.Core.Path.{sym, ap}
 use Rattle.text.proofs.Putting.{reads_as, nothing}
 use Rattle.named.specs.Names.{operation_text}
@@ -36,4 +37,4 @@ returns-in-7 c = reads_as c.put_words-in-7.ensures (ap operation_text (sym c.in-
 pub returns-in_default : goal.returns-in_default
 returns-in_default c =
     reads_as (nothing c.args.out.now c.args.at)
-    (sym (no_operation c.args.operation c.in_default.in_default-own.rest.0.0.0.0.0.0.1 c.in_default.in_default-own.rest.0.0.0.0.0.1 c.in_default.in_default-own.rest.0.0.0.0.1 c.in_default.in_default-own.rest.0.0.0.1 c.in_default.in_default-own.rest.0.0.1 c.in_default.in_default-own.rest.0.1 c.in_default.in_default-own.rest.1))
+    (sym (no_operation c.args.operation (omega arith) (omega arith) (omega arith) (omega arith) (omega arith) (omega arith) (omega arith)))

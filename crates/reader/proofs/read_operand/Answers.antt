@@ -1,4 +1,5 @@
 -- `reader::read_operand` meets its contract: one law for each kind and for each way in which the bytes end early.
+use native.Mathlib.Omega.{arith}
 use Rattle.meaning.specs.declared.Operand.TheVariants.{Constant}
 use Rattle.reader.proofs.Operands.{no_bytes, constant_short, constant, variable_short, variable, cell_short, cell, unknown}
 use mathlib.Core.Path.{sym, ap, ◌∙◌}
@@ -27,4 +28,4 @@ pub returns-else-bytes-lt3 : goal.returns-else-bytes-lt3
 returns-else-bytes-lt3 c = sym (cell _ c.in-2.is c.if-bytes-lt3.false)
 
 pub returns-in_default : goal.returns-in_default
-returns-in_default c = sym (unknown _ c.in_default.in_default-own.rest.0.0.1 c.in_default.in_default-own.rest.0.1 c.in_default.in_default-own.rest.1)
+returns-in_default c = sym (unknown _ (omega arith) (omega arith) (omega arith))

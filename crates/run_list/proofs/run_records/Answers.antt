@@ -22,11 +22,11 @@ use Rattle.run_list.proofs.After.{none_left as ended}
 use Rattle.run_list.proofs.Again as Again
 use Rattle.run_list.proofs.run_records.Goals as goal
 
-abbrev statementIn : List Statement → ℕ → Statement
-statementIn statements slot = get_or statements slot blank
+abbrev statement_at_slot : List Statement → ℕ → Statement
+statement_at_slot statements slot = get_or statements slot blank
 
-abbrev registerIn : List Register → ℕ → Register
-registerIn registers slot = get_or registers slot missing
+abbrev register_in : List Register → ℕ → Register
+register_in registers slot = get_or registers slot missing
 
 pub loop-i-init : goal.loop-i-init
 loop-i-init c =
@@ -64,7 +64,7 @@ loop-i-preserved c =
     c.args.bytes.now c.loop-i.start left_over
     (subst (λ (k : ℕ). allowed_of (declared c.args.block) (counts_of c.loop-i.registers c.loop-i.n) (read_records k (drop c.loop-i.start c.args.bytes.now)) ≡ true) one c.loop-i.invariant.6)
     c.next_instruction-next.result.instruction c.next_instruction-next.ensures.0 c.args.lengths.now _ _ _ c.step-written.result _ c.requires.0
-    (ap (statementIn c.args.block.statements) named) (ap (registerIn c.loop-i.registers) first) (ap (registerIn c.loop-i.registers) second)
+    (ap (statement_at_slot c.args.block.statements) named) (ap (register_in c.loop-i.registers) first) (ap (register_in c.loop-i.registers) second)
     c.step-written.ensures.0 c.step-written.ensures.1 c.step-written.ensures.2 c.registers_more-n.result c.next_instruction-next.result.end c.instruction_price-price.result c.loop-i.price
     c.registers_more-n.ensures.0 c.next_instruction-next.ensures.1 c.instruction_price-price.ensures.0
     in (
