@@ -1,6 +1,6 @@
-//! Ways to the proved library, which `rt staticlib nephinor` writes at the root of the repository: by
-//! `nephinor`, which links it where the target is x86-64, as the library is; and by the driver, a
-//! program that calls it, which is built on every machine, by the compiler and the linker of the kit.
+//! Ways to the proved library, which `bash build library` writes at the root of the repository: by
+//! `nephinor`, which links it; and by the driver, a program that calls it and is asked by pipes, which
+//! the compiler and the linker of the kit build. The library is for x86-64, and so is all of it.
 
 use std::env;
 use std::path::{Path, PathBuf};
@@ -21,12 +21,10 @@ fn build() -> Result<(), String> {
     println!("cargo::rerun-if-changed={}", archive.display());
     if !archive.is_file() {
         let name = archive.display();
-        return Err(format!("{name} is missing: run `rt staticlib nephinor` at the root first"));
+        return Err(format!("{name} is missing: run `bash build library` at the root first"));
     }
-
-    println!("cargo::rustc-check-cfg=cfg(linked)");
-    if env::var("CARGO_CFG_TARGET_ARCH").as_deref() == Ok("x86_64") {
-        println!("cargo::rustc-cfg=linked");
+    if env::var("CARGO_CFG_TARGET_ARCH").as_deref() != Ok("x86_64") {
+        return Err("the library is for x86-64, and what cargo builds here is not".to_string());
     }
 
     let kit = Kit::found()?;
@@ -34,11 +32,10 @@ fn build() -> Result<(), String> {
     let faulty = kit.compiled(here, "faulty")?;
     kit.link("DRIVER", "driver", &[&driver, &archive])?;
     kit.link("FAULTY_DRIVER", "faulty-driver", &[&driver, &faulty])?;
-    println!("cargo::rustc-env=KIT_TOOLS={}", kit.tools.display());
     Ok(())
 }
 
-/// The kit's tools for this machine, and where to write.
+/// The kit's tools, and where to write.
 struct Kit {
     tools: PathBuf,
     linker: PathBuf,
@@ -46,22 +43,16 @@ struct Kit {
 }
 
 impl Kit {
-    /// `rt doc` names a file in a folder of the kit's; what is for one kind of machine stands below on/.
+    /// `rt doc` names a file in the kit's own folder.
     fn found() -> Result<Kit, String> {
         println!("cargo::rerun-if-env-changed=PATH");
-        println!("cargo::rerun-if-env-changed=RATTLE_HOME");
         let said = Command::new("rt").arg("doc").output();
         let said = said.map_err(|error| format!("`rt doc` cannot be run: {error}"))?;
         let guide = String::from_utf8_lossy(&said.stdout);
-        let home = Path::new(guide.trim()).ancestors().nth(2).ok_or("`rt doc` names no file")?;
-        let own = home.join("on").join(env::consts::ARCH);
-        let tools = own.join("toolchain");
-        let emulator = tools.join("bin/qemu-x86_64");
-        if env::consts::ARCH != "x86_64" && !emulator.is_file() {
-            return Err(format!("the kit's emulator {} is missing", emulator.display()));
-        }
+        let home = Path::new(guide.trim()).parent().ok_or("`rt doc` names no file")?;
+        let tools = home.join("toolchain");
         let out = env::var_os("OUT_DIR").ok_or("cargo names no folder to write to")?;
-        Ok(Kit { tools, linker: own.join("bin/rattle-link"), out: out.into() })
+        Ok(Kit { tools, linker: home.join("bin/rattle-link"), out: out.into() })
     }
 
     /// Compiles driver/NAME.c for the library's kind of machine.

@@ -1,4 +1,4 @@
-//! Links the proved library, which `rt staticlib nephinor` writes at the root of the repository. It is
+//! Links the proved library, which `bash build library` writes at the root of the repository. It is
 //! for x86-64; on another machine nothing is linked, and `src/absent.rs` stands in for it.
 
 use std::env;
@@ -13,7 +13,7 @@ fn main() {
     }
     if !archive.is_file() {
         eprintln!(
-            "nephinor: {} is missing: run `rt staticlib nephinor` at the root first",
+            "nephinor: {} is missing: run `bash build library` at the root first",
             archive.display()
         );
         std::process::exit(1);

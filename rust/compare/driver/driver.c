@@ -1,6 +1,6 @@
-// The driver: calls the proved library for tests on a machine whose Rust cannot link it. The library is for
-// x86-64, and so is this program; on another machine the kit's emulator runs it. It reads requests on
-// standard input until they end, and answers each on standard output.
+// The driver: a program that calls the proved library as C does, beside the tests that link it from Rust. The
+// library is for x86-64, and so is this program. It reads requests on standard input until they end, and
+// answers each on standard output.
 //
 // A request is the number of a call and four lengths (in elements; 0 where the call has fewer slices), of 32
 // bits each, then the contents of the slices. Its answer is the number that the call returns, of 64 bits, then
@@ -22,7 +22,7 @@ int memcmp(const void *one, const void *other, u64 size);
 u64 strlen(const char *text);
 _Noreturn void _exit(int status);
 
-// The exports of crates/nephinor: a slice is a pointer and a length.
+// The exports of crates/nephinor_c: a slice is a pointer and a length.
 u64 nephinor_read_block(const byte *bytes, u64, u32 *numbers, u64);
 u64 nephinor_write_block(const u32 *numbers, u64, byte *room, u64);
 u64 nephinor_run_block(const byte *bytes, u64, u32 *variables, u64, u32 *cells, u64);

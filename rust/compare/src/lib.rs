@@ -23,12 +23,8 @@ pub use writing::write_block;
 
 use second::random::Random;
 
-/// The library's calls. Where the machine is of the library's kind they are linked; elsewhere they go
-/// through the driver, a program of its own.
+/// The library's calls, linked. `driven` has the same calls by way of the driver, a program of its own.
 pub mod library {
-    #[cfg(not(linked))]
-    pub use crate::driven::{make_list, read_block, run_block, run_list, write_block};
-    #[cfg(linked)]
     pub use nephinor::calls::{make_list, read_block, run_block, run_list, write_block};
     pub use nephinor::calls::{Answer, TABLE};
 }

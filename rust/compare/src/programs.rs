@@ -1,5 +1,5 @@
-//! Programs for x86-64, which the kit links on every machine: they are run as `rt` runs them, under the
-//! kit's loader and C library, and on a machine of another kind under the kit's emulator.
+//! Programs that the kit links: they are run as `rt run` runs them, by themselves, under the machine's
+//! own loader and C library.
 
 use std::io::{ErrorKind, Write};
 use std::path::{Path, PathBuf};
@@ -7,24 +7,15 @@ use std::process::{Command, Output, Stdio};
 
 /// The command that runs a program, in an empty environment.
 pub(crate) fn command(program: &Path) -> Command {
-    let tools = Path::new(env!("KIT_TOOLS"));
-    let emulator = tools.join("bin/qemu-x86_64");
-    let loader = tools.join("lib/ld-linux-x86-64.so.2");
-    let mut command = if emulator.is_file() {
-        let mut command = Command::new(emulator);
-        command.arg(loader);
-        command
-    } else {
-        Command::new(loader)
-    };
-    command.env_clear().arg("--library-path").arg(tools.join("lib")).arg(program);
+    let mut command = Command::new(program);
+    command.env_clear();
     command
 }
 
-/// Where `rt` builds a program of this repository.
+/// Where `bash build` puts a program of this repository.
 pub fn built(name: &str) -> PathBuf {
     let program = Path::new(env!("CARGO_MANIFEST_DIR")).join("../../target/bin").join(name);
-    assert!(program.is_file(), "target/bin/{name} is missing: run `rt check {name}` first");
+    assert!(program.is_file(), "target/bin/{name} is missing: run `bash build {name}` first");
     program
 }
 

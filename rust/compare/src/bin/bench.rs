@@ -44,10 +44,6 @@ fn main() -> ExitCode {
         eprint!("{USAGE}");
         return ExitCode::from(2);
     };
-    if cfg!(not(linked)) {
-        eprintln!("libnephinor.a is for x86-64: there is nothing to measure on this machine");
-        return ExitCode::from(2);
-    }
     println!("{:<34}{:>12}{:>12}   library's time over second's", "", "library", "second");
     println!("{:<34}{:>12}{:>12}   median (lowest to highest)", "", "a second", "a second");
     for (name, work) in [("64 statements", sixty_four()), ("mixed sizes", mixed())] {

@@ -9,5 +9,4 @@ mod programs;
 mod rooms;
 mod vectors;
 mod ways;
-#[cfg(linked)]
 mod wrapper;

@@ -1,5 +1,5 @@
 //! The two ways to the library, linked and through the driver, on every line of the vectors: what one
-//! returns and leaves, so does the other. Where nothing can be linked, both are the driver.
+//! returns and leaves, so does the other.
 
 use compare::driven;
 use compare::library::{self, Answer, TABLE};
