@@ -40,10 +40,10 @@ PHASES = {
     "choice": ("Choice; all in turn", "maker", ["choice", "phases", "maker"]),
     "list": ("Reading a list: 8, 9", "lists", ["lists", "rules", "instructions"]),
     "card": ("Running a list", "lists", ["run_list", "card"]),
-    "calls": ("The five calls", "calls", ["nephinor", "table"]),
+    "calls": ("The five calls", "calls", ["nephinor_c", "nephinor", "table"]),
     "beside": ("Side by side", "calls", ["beside"]),
     "course": ("How it came about", "calls", ["account", "account_lengths", "course", "account_statements", "account_units", "account_list"]),
-    "program": ("The programs", "calls", ["list", "compare", "explain", "comparison", "ends", "answers", "named", "text"]),
+    "program": ("The programs", "calls", ["list", "compare", "explain", "comparison", "ends", "answers", "named", "text", "streams"]),
 }
 
 
@@ -53,8 +53,9 @@ def read_crates(path):
     for line in path.read_text().splitlines():
         line = line.split("#")[0].strip()
         if line:
-            name, _, names = line.partition(":")
-            crates[name.strip()] = names.split()
+            head, _, names = line.partition(":")
+            # behind the name may stand what kind of crate it is
+            crates[head.split()[0]] = names.split()
     return {name: [d for d in names if d in crates] for name, names in crates.items()}
 
 
@@ -212,9 +213,9 @@ def draw_phases(crates):
     p.right("calls", "beside", 712)
     p.right("beside", "program", 712)
     p.arrow(f"M{columns[3]} 712 H{columns[2] + CARD + 2:g}")
-    p.text(20, 768, "From C the calls are in include/nephinor.h,", size=11, anchor="start")
-    p.text(20, 783, "from Rust in rust/nephinor.", size=11, anchor="start")
-    p.write(DOCS / "phases.svg", 800, "The data's way through the phases, and the crates of each")
+    p.text(20, 783, "From C the calls are in include/nephinor.h,", size=11, anchor="start")
+    p.text(20, 798, "from Rust in rust/nephinor.", size=11, anchor="start")
+    p.write(DOCS / "phases.svg", 820, "The data's way through the phases, and the crates of each")
 
 
 # ---- What stands on what ----

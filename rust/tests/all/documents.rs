@@ -202,7 +202,9 @@ fn pictures_have_every_crate() {
     for picture in ["docs/phases.svg", "docs/crates.svg"] {
         let drawn = read(&at(picture));
         let crates = read(&at("crates.txt"));
-        let names = crates.lines().filter_map(|line| line.split_once(':')).map(|(name, _)| name);
+        let heads = crates.lines().filter_map(|line| line.split_once(':')).map(|(head, _)| head);
+        // Behind the name may stand what kind of crate it is.
+        let names = heads.filter_map(|head| head.split_whitespace().next());
         let missing = names.filter(|name| !drawn.contains(&format!(">{name}<")));
         wrong.extend(missing.map(|name| format!("{picture}: {name}")));
     }
