@@ -5,7 +5,7 @@
  * instructions, which an acquisition card runs. Both are bytes. The calls read a block, write one, make its list, and
  * run either on variables and cells that the caller lends.
  *
- * The library is for Linux on x86-64: `rt staticlib nephinor` writes target/staticlib/libnephinor.a, which is linked with the
+ * The library is for Linux on x86-64: `bash build library` writes target/staticlib/libnephinor.a, which is linked with the
  * program. A call returns one number, the answer: look at nephinor_status_of(answer) first; if that is NEPHINOR_DONE, take
  * the size and the prices out of the answer. A room of NEPHINOR_LIST_ROOM bytes fits every list. examples/c/worked_block.c
  * makes a list and runs it beside its block.
@@ -131,9 +131,9 @@ enum {
     /* A list has at most so many instructions, and writes at most so many registers. */
     NEPHINOR_MOST_INSTRUCTIONS = 160,
     NEPHINOR_MOST_REGISTERS = 96,
-    /* No block that is read or written takes more bytes: proved, block-length in crates/theorems/proofs/BlockRoundTrip.antt. */
+    /* No block that is read or written takes more bytes: proved, block_length in crates/theorems/proofs/BlockRoundTrip.antt. */
     NEPHINOR_MOST_BLOCK_BYTES = 983,
-    /* A room of so many bytes fits every list that is made: proved, room-enough in crates/theorems/proofs/Alike.antt. */
+    /* A room of so many bytes fits every list that is made: proved, room_enough in crates/theorems/proofs/Alike.antt. */
     NEPHINOR_LIST_ROOM = 3844
 };
 

@@ -45,11 +45,11 @@ pub const MOST_INSTRUCTIONS: usize = 160;
 /// A list writes at most so many registers.
 pub const MOST_REGISTERS: usize = 96;
 
-/// No block that is read or written takes more bytes: proved, `block-length` in
+/// No block that is read or written takes more bytes: proved, `block_length` in
 /// crates/theorems/proofs/BlockRoundTrip.antt.
 pub const MOST_BLOCK_BYTES: usize = 983;
 
-/// A room of so many bytes fits every list that is made: proved, `room-enough` in
+/// A room of so many bytes fits every list that is made: proved, `room_enough` in
 /// crates/theorems/proofs/Alike.antt.
 pub const LIST_ROOM: usize = 3844;
 
