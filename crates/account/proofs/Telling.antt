@@ -18,7 +18,7 @@ use Rattle.meaning.specs.Calls.{ListMade, block_read, read_block_call, in_room, 
 use Rattle.theorems.proofs.Bytes.{is_byte}
 use Rattle.theorems.proofs.Readable.{refused_number, done_readable, done_fits, declared_in_memory}
 use Rattle.theorems.proofs.ListRoundTrip.{list_length}
-use Rattle.theorems.proofs.Lawful.{chosen_lawful}
+use Rattle.theorems.proofs.Chosen.{chosen_lawful}
 use Rattle.theorems.proofs.ScheduleRuns.{units_of_lem}
 use Rattle.choice.specs.Promises.{Legal}
 use Rattle.maker.specs.declared.Made.{Made}

@@ -19,7 +19,7 @@ use Rattle.meaning.specs.Choice.{scheduled_units, packed_list, chosen_list}
 use Rattle.theorems.proofs.Bytes.{is_byte}
 use Rattle.theorems.proofs.Readable.{done_readable, done_fits}
 use Rattle.theorems.proofs.ScheduleRuns.{units_of_lem}
-use Rattle.theorems.proofs.Lawful.{chosen_lawful}
+use Rattle.theorems.proofs.Chosen.{chosen_lawful}
 use Rattle.text.specs.Text.{words}
 use Rattle.answers.specs.Sentences.{refusal}
 use Rattle.answers.proofs.Lengths.{length_refusal}

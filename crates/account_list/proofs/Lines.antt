@@ -20,7 +20,8 @@ use Rattle.meaning.specs.Choice.{chosen_list}
 use Rattle.meaning.specs.Calls.{ListMade, list_made, make_list_call}
 use Rattle.theorems.proofs.Bytes.{is_byte}
 use Rattle.theorems.proofs.Readable.{done_readable, done_fits}
-use Rattle.theorems.proofs.Lawful.{chosen_lawful, lawful_back}
+use Rattle.theorems.proofs.Lawful.{lawful_back}
+use Rattle.theorems.proofs.Chosen.{chosen_lawful}
 use Rattle.theorems.proofs.ScheduleRuns.{units_of_lem}
 use Rattle.theorems.proofs.Demand.{left_in}
 use Rattle.instructions.specs.Next.{instruction_at, end_at, behind}

@@ -70,8 +70,8 @@ shown bytes room m are large block-status =
     (shown_of (get_or bytes 4 0) made (run_list_call bytes (left_in made) m) (run_block_call bytes m) made_status block-status (alike bytes room m are made_status block-status))
 
 -- So what the call returns shows it: what it promises is all that is asked of it.
-pub returned_shown : (r : Returned) (bytes room after : List ℕ) (m block_left_lem List-left : Contents)
-    → answer r after block_left_lem List-left ≡ side_by_side bytes room m m
+pub returned_shown : (r : Returned) (bytes room after : List ℕ) (m block_left list_left : Contents)
+    → answer r after block_left list_left ≡ side_by_side bytes room m m
     → all is_byte bytes ≡ true → 3844 ≤ length room → (run_block_call bytes m).status ≡ 0
-    → Shown (answer r after block_left_lem List-left)
-returned_shown r bytes room after m block_left_lem List-left promise are large block-status = subst Shown (sym promise) (shown bytes room m are large block-status)
+    → Shown (answer r after block_left list_left)
+returned_shown r bytes room after m block_left list_left promise are large block-status = subst Shown (sym promise) (shown bytes room m are large block-status)

@@ -38,7 +38,7 @@ no_mark_here p start block list e = ap (λ (n : ℕ). line p start block n) e �
 -- runs that both are done and end alike
 module _
     (lengths : List ℕ) (live : ℕ) (start : Contents) (s : SideBySide) (block_price list_price : ℕ) (end : Contents)
-    (block_done : s.block ≡ 0) (List-done : s.list ≡ 0) (block_paid_lem : s.block_paid ≡ block_price) (list_paid_lem : s.list_paid ≡ list_price)
+    (block_done : s.block ≡ 0) (list_done : s.list ≡ 0) (block_paid_lem : s.block_paid ≡ block_price) (list_paid_lem : s.list_paid ≡ list_price)
     (same : s.same ≡ true) (left : s.block_left ≡ end) (cells : s.list_left.cells ≡ end.cells)
     (variables : (v : ℕ) → v < live → get_or s.list_left.variables v 0 ≡ get_or end.variables v 0) where
   plain_cell : (a i : ℕ) → place_line lengths start s.block_left s.list_left (Cell a i) ≡ plain_line lengths start end (Cell a i)
@@ -61,7 +61,7 @@ module _
       (ap₂ ◌++◌
       (ap₂ ◌++◌
       (ap (λ (runs : List ℕ). runs ++ heading)
-      (ap₂ ◌++◌ (ap₂ (run_line (words "block: status ")) block_done block_paid_lem) (ap₂ (run_line (words "list: status ")) List-done list_paid_lem)))
+      (ap₂ ◌++◌ (ap₂ (run_line (words "block: status ")) block_done block_paid_lem) (ap₂ (run_line (words "list: status ")) list_done list_paid_lem)))
       (cells_same (place_line lengths start s.block_left s.list_left) (plain_line lengths start end) plain_cell 0 lengths))
       (variables_same (place_line lengths start s.block_left s.list_left) (plain_line lengths start end) live plain_variable))
       (ap verdict same)

@@ -175,8 +175,8 @@ of_making =
     ∷ []
 
 -- "Running: block, 6"
-pub of_running_aBlock : List Row
-of_running_aBlock =
+pub of_running_a_block : List Row
+of_running_a_block =
     -- version 2 (1) before one variable too many (6)
     gives 1 (running_block (bytes_of 7 0x02_0007_00_00_00_00) (contents 1 0))
     -- under 7 bytes (2) before one variable too many (6)
@@ -200,8 +200,8 @@ of_running_aBlock =
     ∷ []
 
 -- "then, for a list, all of 8": what its bytes alone show
-pub of_running_aList : List Row
-of_running_aList =
+pub of_running_a_list : List Row
+of_running_a_list =
     -- version 2 of the block (1) before one cell too many (6) and version 2 of the list (8)
     gives 1 (running_list (bytes_of 7 0x02_0007_00_00_00_00) (bytes_of 4 0x02_0004_00) (contents 0 1))
     -- a block under 7 bytes (2) before a list of no bytes (8)
@@ -318,9 +318,9 @@ against_the_rules =
     ∷ []
 
 pub refusals : List Row
-refusals = of_reading ++ of_writing ++ of_making ++ of_running_aBlock ++ of_running_aList ++ against_the_rules
+refusals = of_reading ++ of_writing ++ of_making ++ of_running_a_block ++ of_running_a_list ++ against_the_rules
 
 -- Every call is refused with its number, with nothing but zeros or the length needed beside it, and leaves what was lent as it was.
 pub every_refusal : map (λ row. result row.call) refusals ≡ map (λ row. refusal row.number row.needed row.call) refusals
-unfolding everything refusals of_reading of_writing of_making of_running_aBlock of_running_aList against_the_rules
+unfolding everything refusals of_reading of_writing of_making of_running_a_block of_running_a_list against_the_rules
 every_refusal = refl

@@ -25,8 +25,9 @@ use Rattle.theorems.proofs.Bytes.{is_byte}
 use Rattle.theorems.proofs.Readable.{Readable, refused_number, done_readable, done_fits}
 use Rattle.theorems.proofs.BlockRoundTrip.{block_length, writer_refused, writer_done}
 use Rattle.theorems.proofs.ListRoundTrip.{ListFits, list_length, list_read}
-use Rattle.theorems.proofs.Prices.{plain_price, chosen_priced}
-use Rattle.theorems.proofs.Lawful.{plain_lawful, chosen_lawful}
+use Rattle.theorems.proofs.Prices.{plain_price}
+use Rattle.theorems.proofs.Lawful.{plain_lawful}
+use Rattle.theorems.proofs.Chosen.{chosen_priced, chosen_lawful}
 use Rattle.theorems.proofs.ScheduleRuns.{units_of_lem}
 use Rattle.emit.proofs.Prices.{list_cheap}
 use Rattle.table.specs.Said.{block_said}

@@ -1,5 +1,5 @@
-// The calls for C and Rust, under the names by which they are linked: each is the library's call of its name, with
-// the same promise.
+// The calls for C and Rust, under the names by which they are linked, a slice as a pointer and a length: each is the
+// library's call of its name, with the same promise.
 
 #![tactic(auto)]
 

@@ -20,18 +20,18 @@ use Rattle.meaning.specs.Calls.{block_read, read_block_call, ListMade, list_made
 use Rattle.theorems.proofs.Bytes.{is_byte}
 use Rattle.theorems.proofs.Readable.{refused_number, done_readable, done_written, done_fits}
 use Rattle.theorems.proofs.ListRoundTrip.{list_length}
-use Rattle.theorems.proofs.Lawful.{chosen_lawful}
+use Rattle.theorems.proofs.Chosen.{chosen_lawful}
 use Rattle.theorems.proofs.ScheduleRuns.{units_of_lem}
 use Rattle.theorems.proofs.Demand.{left_in, Kept, demand}
 
 -- The list runs without refusal and ends as the block does, in every cell and in the first `live` variables, the live-out ones; each pays
 -- what making the list reported of it, and the list pays no more than the block.
-pub record Alike (live : ℕ) (made : ListMade) (list_run_lem block_run : Ran) : Type 0 where
-  pub list_done : list_run_lem.status ≡ 0
-  pub same_cells : list_run_lem.contents.cells ≡ block_run.contents.cells
-  pub same_live : (v : ℕ) → v < live → get_or list_run_lem.contents.variables v 0 ≡ get_or block_run.contents.variables v 0
-  pub as_many : length list_run_lem.contents.variables ≡ length block_run.contents.variables
-  pub list_paid_lem : list_run_lem.price ≡ made.list_cost
+pub record Alike (live : ℕ) (made : ListMade) (list_run block_run : Ran) : Type 0 where
+  pub list_done : list_run.status ≡ 0
+  pub same_cells : list_run.contents.cells ≡ block_run.contents.cells
+  pub same_live : (v : ℕ) → v < live → get_or list_run.contents.variables v 0 ≡ get_or block_run.contents.variables v 0
+  pub as_many : length list_run.contents.variables ≡ length block_run.contents.variables
+  pub list_paid_lem : list_run.price ≡ made.list_cost
   pub block_paid_lem : block_run.price ≡ made.block_cost
   pub at_most : made.list_cost ≤ made.block_cost
 
@@ -84,9 +84,9 @@ pub alike : (bytes room : List ℕ) (m : Contents) → all is_byte bytes ≡ tru
     → Alike (get_or bytes 4 0) (make_list_call bytes room) (run_list_call bytes (left_in (make_list_call bytes room)) m) (run_block_call bytes m)
 alike bytes room m are made_status block-status = by (read_block bytes) refl
   where
-    from : (b : Block) (made : ListMade) (list_run_lem block_run : Ran) → get_or bytes 4 0 ≡ b.live → Kept b made list_run_lem block_run
-        → Alike (get_or bytes 4 0) made list_run_lem block_run
-    from b made list_run_lem block_run stated kept =
+    from : (b : Block) (made : ListMade) (list_run block_run : Ran) → get_or bytes 4 0 ≡ b.live → Kept b made list_run block_run
+        → Alike (get_or bytes 4 0) made list_run block_run
+    from b made list_run block_run stated kept =
         record {
           list_done = kept.list_done;
           same_cells = kept.cells;

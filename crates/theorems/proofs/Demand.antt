@@ -47,14 +47,14 @@ make_called bytes room b e fits =
     (le-leb (length (list_bytes (chosen_list b))) (length room) fits)
 
 -- what making the list, running it and running the block have to do with each other
-pub record Kept (b : Block) (made : ListMade) (list_run_lem block_run : Ran) : Type 0 where
+pub record Kept (b : Block) (made : ListMade) (list_run block_run : Ran) : Type 0 where
   pub list_made_lem : made.status ≡ 0
-  pub list_done : list_run_lem.status ≡ 0
+  pub list_done : list_run.status ≡ 0
   pub block_done : block_run.status ≡ 0
-  pub cells : list_run_lem.contents.cells ≡ block_run.contents.cells
-  pub live : (v : ℕ) → v < b.live → get_or list_run_lem.contents.variables v 0 ≡ get_or block_run.contents.variables v 0
-  pub as_many : length list_run_lem.contents.variables ≡ length block_run.contents.variables
-  pub paid : list_run_lem.price ≡ made.list_cost
+  pub cells : list_run.contents.cells ≡ block_run.contents.cells
+  pub live : (v : ℕ) → v < b.live → get_or list_run.contents.variables v 0 ≡ get_or block_run.contents.variables v 0
+  pub as_many : length list_run.contents.variables ≡ length block_run.contents.variables
+  pub paid : list_run.price ≡ made.list_cost
   pub block_paid_lem : block_run.price ≡ made.block_cost
   pub at_most : made.list_cost ≤ made.block_cost
   pub below_vector : made.list_cost < made.block_cost → any is_vector (chosen_list b) ≡ true
@@ -63,12 +63,12 @@ pub record Kept (b : Block) (made : ListMade) (list_run_lem block_run : Ran) : T
   pub lawful : Lawful b (chosen_list b)
 
 kept_of : (bytes room : List ℕ) (b : Block) (m : Contents) → Faithful bytes b m (chosen_list b)
-    → (list_run_lem block_run : Ran)
-    → list_run_lem ≡ record { status = 0; price = list_price b.statements (chosen_list b); contents = run_list b (chosen_list b) m }
+    → (list_run block_run : Ran)
+    → list_run ≡ record { status = 0; price = list_price b.statements (chosen_list b); contents = run_list b (chosen_list b) m }
     → block_run ≡ record { status = 0; price = block_price b.statements; contents = run_block b m }
-    → Kept b (made_of room b) list_run_lem block_run
+    → Kept b (made_of room b) list_run block_run
 unfolding made_of
-kept_of bytes room b m f list_run_lem block_run e h =
+kept_of bytes room b m f list_run block_run e h =
     record {
       list_made_lem = refl;
       list_done = ap (λ (r : Ran). r.status) e;

@@ -18,8 +18,9 @@ use Rattle.theorems.specs.Memory.{Memory, ran as ran_over, at_one_stroke}
 use Rattle.theorems.specs.Units.{Units}
 use Rattle.theorems.proofs.Bytes.{is_byte}
 use Rattle.theorems.proofs.Readable.{done_readable, done_fits}
-use Rattle.theorems.proofs.Prices.{Priced, chosen_priced}
-use Rattle.theorems.proofs.Lawful.{Lawful, chosen_lawful, lawful_back}
+use Rattle.theorems.proofs.Prices.{Priced}
+use Rattle.theorems.proofs.Lawful.{Lawful, lawful_back}
+use Rattle.theorems.proofs.Chosen.{chosen_priced, chosen_lawful}
 use Rattle.theorems.proofs.Outcome.{SameOutcome, chosen_outcome}
 use Rattle.theorems.proofs.Footprint.{Inside, chosen_inside}
 

@@ -1,4 +1,5 @@
--- The lists that are made are within the rules: neither 8 nor 9 is given for them, and they are read back from their bytes.
+-- Lists within the rules: neither 8 nor 9 is given for them, and they are read back from their bytes. What the packed list's limits are, and
+-- that the plain list is one.
 use mathlib.Core.Path.{◌≡◌, refl}
 use mathlib.Core.Bool.{true}
 use mathlib.Core.Option.{some}
@@ -34,24 +35,20 @@ pub record Lawful (b : Block) (list : List Instruction) : Type 0 where
   pub fits : ListFits list
   pub fields : all fields_fit list ≡ true
 
-lawful_from : (b : Block) (list : List Instruction) → Readable b → allowed b [] list ≡ true → length list ≤ 160 → all instruction_fits list ≡ true → Lawful b list
+pub lawful_from : (b : Block) (list : List Instruction) → Readable b → allowed b [] list ≡ true → length list ≤ 160 → all instruction_fits list ≡ true → Lawful b list
 lawful_from b list readable may short fit =
     record { permitted = may; fits = record { count = short; fit = fit }; fields = fields_fit_lem b readable list may fit }
 
 -- the packed list
 module _ (b : Block) (readable : Readable b) (constants : all constants_fit b.statements ≡ true) (u : Units b.statements (scheduled_units b.statements)) where
-  end : Sound b 0 (scheduled_units b.statements) (finished b.statements b.live (scheduled_units b.statements))
+  pub end : Sound b 0 (scheduled_units b.statements) (finished b.statements b.live (scheduled_units b.statements))
   end = sound b readable constants (emission_steps b.statements b.live (scheduled_units b.statements) u).reached
 
-  size : length (flat (scheduled_units b.statements)) ≤ 64
+  pub size : length (flat (scheduled_units b.statements)) ≤ 64
   size = omega (arith, units_size b.statements (scheduled_units b.statements) u, readable.count)
 
   pub packed_registers : next (finished b.statements b.live (scheduled_units b.statements)) ≤ 96
   packed_registers = omega (arith, end.few, size)
-
-  pub packed_lawful : Lawful b (packed_list b)
-  unfolding packed_list emission
-  packed_lawful = lawful_from b (packed_list b) readable (end.list packed_registers) (omega (arith, end.short, size)) end.fit
 
 -- S for every statement in block order
 plain_fits : (n i : ℕ) → all instruction_fits (plain_from n i) ≡ true
@@ -69,14 +66,7 @@ plain_lawful b readable =
     lawful_from b (plain_list b) readable (plain_allowed b (length b.statements) 0 (omega arith))
     (omega (arith, plain_length (length b.statements) 0, readable.count)) (plain_fits (length b.statements) 0)
 
--- The list that is chosen is within the rules,
-pub chosen_lawful : (b : Block) → Readable b → all constants_fit b.statements ≡ true → Units b.statements (scheduled_units b.statements) → Lawful b (chosen_list b)
-unfolding chosen_list
-chosen_lawful b readable constants u =
-    pick_holds (Lawful b) (ltb (list_price b.statements (packed_list b)) (block_price b.statements)) (packed_list b) (plain_list b)
-    (λ below. packed_lawful b readable constants u) (λ above. plain_lawful b readable)
-
--- what is written of it are bytes, and it is read back from them.
+-- What is written of such a list are bytes, and it is read back from them.
 pub lawful_back : (b : Block) (list : List Instruction) → Lawful b list → read_list (list_bytes list) ≡ some list
 lawful_back b list h = list_back list h.fits
 

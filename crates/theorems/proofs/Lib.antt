@@ -36,6 +36,7 @@ pub mod Allowed
 pub mod Limits
 pub mod Fields
 pub mod Lawful
+pub mod Chosen
 pub mod Seen
 pub mod Current
 pub mod Simulation

@@ -23,7 +23,8 @@ use Rattle.theorems.specs.Machine.{machine_after}
 use Rattle.theorems.proofs.Records.{constants_fit}
 use Rattle.theorems.proofs.Readable.{Readable}
 use Rattle.theorems.proofs.View.{variables_sized, variable_seen, cells_faithful, view_block, size_block}
-use Rattle.theorems.proofs.Lawful.{Lawful, packed_lawful, plain_lawful}
+use Rattle.theorems.proofs.Lawful.{Lawful, plain_lawful}
+use Rattle.theorems.proofs.Chosen.{packed_lawful}
 use Rattle.theorems.proofs.Simulation.{looks_at, emission_runs}
 use Rattle.theorems.proofs.Mirror.{view_list, size_list, plain_runs}
 

@@ -1,5 +1,4 @@
--- Prices: S for every statement costs what the block costs, in whatever order; so a list that costs less has a vector instruction, and the
--- list that is chosen never costs more than its block.
+-- Prices: S for every statement costs what the block costs, in whatever order; so a list that costs less has a vector instruction.
 use mathlib.Core.Path.{◌≡◌, refl, sym, ap, ◌∙◌}
 use mathlib.Core.Bool.{Bool, true, false, ◌||◌, true≢false, false≢true}
 use mathlib.Core.List.{List, [], ◌∷◌, ◌++◌, map}
@@ -114,7 +113,7 @@ pub record Priced (b : Block) (list : List Instruction) : Type 0 where
   pub below_vector : list_price b.statements list < block_price b.statements → any is_vector list ≡ true
   pub vector_below : any is_vector list ≡ true → list_price b.statements list < block_price b.statements
 
-packed_priced : (b : Block) → Units b.statements (scheduled_units b.statements) → list_price b.statements (packed_list b) < block_price b.statements
+pub packed_priced : (b : Block) → Units b.statements (scheduled_units b.statements) → list_price b.statements (packed_list b) < block_price b.statements
     → Priced b (packed_list b)
 unfolding packed_list
 packed_priced b u below =
@@ -128,7 +127,7 @@ packed_priced b u below =
     by true e = refl
     by false e = absurd (omega (arith, packed_plain b.statements b.live (scheduled_units b.statements) u e))
 
-plain_priced : (b : Block) → Priced b (plain_list b)
+pub plain_priced : (b : Block) → Priced b (plain_list b)
 unfolding plain_list
 plain_priced b =
     let none : any is_vector (plain_list b) ≡ false = plain_no_vector (length b.statements) 0 in
@@ -137,10 +136,3 @@ plain_priced b =
       below_vector = λ less. absurd (omega (arith, plain_price b));
       vector_below = λ vector. absurd (false≢true (sym none ∙ vector));
     }
-
--- and less exactly where it has a vector instruction.
-pub chosen_priced : (b : Block) → Units b.statements (scheduled_units b.statements) → Priced b (chosen_list b)
-unfolding chosen_list
-chosen_priced b u =
-    pick_holds (Priced b) (ltb (list_price b.statements (packed_list b)) (block_price b.statements)) (packed_list b) (plain_list b)
-    (λ below. packed_priced b u (ltb-true _ _ below)) (λ above. plain_priced b)
