@@ -18,6 +18,7 @@ struct Printed {
 }
 
 // "Input over 4,096 bytes prints 2 0 0 0": such input is not looked at.
+#[tactic(auto, using(answers::proofs::Chosen::over, answers::proofs::Chosen::not_over))]
 fn make(input: &[u8], room: &mut [u8]) -> Made
     ensures { record { status = result.status; size = result.size; block_cost = result.block; list_cost = result.list; room = room.new } ≡ made_of input.now room.old }
 {
