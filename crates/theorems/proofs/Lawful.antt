@@ -11,11 +11,10 @@ use lib.ListN.{length}
 use borrow.Author.Tests.{lt-ltb}
 use Rattle.basics.specs.Lists.{all, flat}
 use Rattle.basics.proofs.Tests.{and_both}
-use Rattle.basics.proofs.Parts.{pick_holds}
-use Rattle.meaning.specs.Block.{Block, block_price}
-use Rattle.meaning.specs.List.{Instruction, allowed, list_price, list_bytes, read_list}
-use Rattle.meaning.specs.Emission.{next, emission}
-use Rattle.meaning.specs.Choice.{scheduled_units, packed_list, plain_from, plain_list, chosen_list}
+use Rattle.meaning.specs.Block.{Block}
+use Rattle.meaning.specs.List.{Instruction, allowed, list_bytes, read_list}
+use Rattle.meaning.specs.Emission.{next}
+use Rattle.meaning.specs.Choice.{scheduled_units, plain_from, plain_list}
 use Rattle.meaning.proofs.Lengths.{plain_length}
 use Rattle.theorems.specs.Units.{Units}
 use Rattle.theorems.proofs.Bytes.{is_byte}

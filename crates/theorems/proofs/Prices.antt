@@ -5,18 +5,15 @@ use mathlib.Core.List.{List, [], ◌∷◌, ◌++◌, map}
 use Prim.Native.Nat.{ℕ, zero, suc, ◌+◌, ◌≤◌, ◌<◌}
 use native.Mathlib.Numerals.{add-one}
 use native.Mathlib.Omega.{arith}
-use lib.Dec.{ltb}
 use lib.ListN.{length}
-use borrow.Author.Tests.{ltb-true}
 use Rattle.basics.specs.Lists.{any, sum, flat}
-use Rattle.basics.proofs.Parts.{pick_holds}
 use Rattle.basics.proofs.Finding.{any_append, flat_append}
 use Rattle.meaning.specs.declared.Operand.{Operand}
 use Rattle.meaning.specs.declared.Statement.{Statement}
 use Rattle.meaning.specs.Block.{Block, blank, statement, statement_price, block_price}
 use Rattle.meaning.specs.List.{Instruction, S, O, X, instruction_price, list_price, is_vector}
 use Rattle.meaning.specs.Emission.{Emitted, written, row_start, next, destinations, operation_of, emission}
-use Rattle.meaning.specs.Choice.{scheduled_units, packed_list, plain_from, plain_list, chosen_list}
+use Rattle.meaning.specs.Choice.{scheduled_units, packed_list, plain_from, plain_list}
 use Rattle.theorems.specs.Units.{Every, occurs, Units}
 use Rattle.theorems.specs.Steps.{Load, in_row, constants, gathered, Reached, start, extracts, loads, single, pack, stores}
 use Rattle.theorems.proofs.Sums.{over, over_list, any_order}
