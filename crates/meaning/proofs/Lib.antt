@@ -10,4 +10,5 @@ pub mod RivalEmissions
 pub mod RivalReadings
 pub mod Calling
 pub mod Refusals
+pub mod Handed
 pub mod Limits

@@ -1,5 +1,5 @@
 -- "Bytes, big-endian, one version byte in front": reading a block and writing one, with the order of their refusals.
-use Rattle.std.specs.Prelude.{ℕ, zero, suc, ◌+◌, ◌*◌, ◌/◌, ◌%◌, ◌^◌, Bool, true, false, ◌&&◌, not, List, [], ◌∷◌, ◌++◌, map, eqb, leb, length, get_or, take, drop}
+use Rattle.std.specs.Prelude.{ℕ, zero, suc, ◌+◌, ◌*◌, ◌/◌, ◌%◌, ◌^◌, Bool, true, false, ◌&&◌, not, List, [], ◌∷◌, ◌++◌, map, eqb, leb, length, get_or, take, drop, Option, Some, None}
 use Rattle.basics.specs.Choice.{pick}
 use Rattle.basics.specs.Lists.{all, fill, each, flat}
 use Rattle.meaning.specs.declared.Place.{Place}
@@ -7,8 +7,6 @@ use Rattle.meaning.specs.declared.Place.TheVariants.{Variable, Cell}
 use Rattle.meaning.specs.declared.Operand.{Operand}
 use Rattle.meaning.specs.declared.Operand.TheVariants.{Nothing, Constant, Held}
 use Rattle.meaning.specs.declared.Statement.{Statement}
-use Rattle.meaning.specs.declared.Record.{Record}
-use Rattle.meaning.specs.declared.Record.TheVariants.{Broken, Whole}
 use Rattle.meaning.specs.declared.Block.{Block as Slots}
 use Rattle.meaning.specs.Numbers.{Answer, refused, done, demand, and_then}
 use Rattle.meaning.specs.Block.{Block, declared, blank, is_copy, declares_statement}
@@ -92,15 +90,15 @@ read_statement bytes destination =
       right = read_right bytes destination (read_left bytes destination);
     }
 
-abbrev pub whole : List ℕ → Statement → Record
-whole bytes s = pick (well_formed s && eqb (length bytes) (statement_width s)) (Whole s) Broken
+abbrev pub whole : List ℕ → Statement → Option Statement
+whole bytes s = pick (well_formed s && eqb (length bytes) (statement_width s)) (Some s) None
 
-abbrev pub read_behind : List ℕ → Operand → Record
-read_behind bytes Nothing = Broken
-read_behind bytes (Constant c) = Broken
+abbrev pub read_behind : List ℕ → Operand → Option Statement
+read_behind bytes Nothing = None
+read_behind bytes (Constant c) = None
 read_behind bytes (Held p) = whole bytes (read_statement bytes p)
 
-unfoldable pub read_record : List ℕ → Record
+unfoldable pub read_record : List ℕ → Option Statement
 read_record bytes = read_behind bytes (read_operand (drop 1 bytes))
 
 -- what has been read, and the bytes behind it
@@ -133,8 +131,8 @@ read_statements (suc n) variables lengths (size ∷ bytes) =
       | false ↦ refused 4
       | true ↦
           elim (read_record (take size bytes)) [
-            | Broken ↦ refused 4
-            | Whole s ↦
+            | None ↦ refused 4
+            | Some s ↦
                 elim (declares_statement variables lengths s) [
                   | false ↦ refused 5
                   | true ↦ in_front s (read_statements n variables lengths (drop size bytes))

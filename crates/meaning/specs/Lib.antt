@@ -1,4 +1,5 @@
 pub mod Numbers
+pub mod Refusals
 pub mod Block
 pub mod Format
 pub mod Machine

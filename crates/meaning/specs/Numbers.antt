@@ -14,3 +14,8 @@ demand false number following = refused number
 abbrev pub and_then : {A B : Type 0} → Answer A → (A → Answer B) → Answer B
 and_then (refused number) next = refused number
 and_then (done a) next = next a
+
+-- what is done, seen through a function; a refusal stays
+abbrev pub map_answer : {A B : Type 0} → (A → B) → Answer A → Answer B
+map_answer f (refused number) = refused number
+map_answer f (done a) = done (f a)

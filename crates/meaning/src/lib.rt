@@ -3,6 +3,9 @@
 
 #![tactic(auto)]
 
+ghost use Rattle.std.specs.Prelude.{◌≡◌};
+ghost use Rattle.meaning.specs.Refusals.{number_of, needed_of};
+
 // "A place is a variable or a cell (array and fixed index)."
 #[derive(Clone, Copy)]
 pub enum Place {
@@ -27,6 +30,16 @@ pub struct Statement {
     pub right: Operand,
 }
 
+impl Statement {
+    // What stands in a slot that is not declared.
+    pub const BLANK: Statement = Statement {
+        operation: 0,
+        destination: Place::Variable(0),
+        left: Operand::Nothing,
+        right: Operand::Nothing,
+    };
+}
+
 // A block in memory. The counts say how many of the slots are declared.
 #[derive(Clone, Copy)]
 pub struct Block {
@@ -38,9 +51,44 @@ pub struct Block {
     pub statements: [Statement; 64],
 }
 
-// What a statement's record turns out to be.
-#[derive(Clone, Copy)]
-pub enum Record {
-    Broken,
-    Whole(Statement),
+// Why a call is refused: "Numbers returned", in their order.
+#[derive(Clone, Copy, Debug, PartialEq, Eq)]
+pub enum Refusal {
+    Version,
+    Length,
+    Limits,
+    Form,
+    Undeclared,
+    Sizes,
+    Room { needed: usize },
+    List,
+    Rules,
+}
+
+impl Refusal {
+    pub fn number(self) -> u8
+        ensures { result ≡ number_of self }
+    {
+        match self {
+            Refusal::Version => 1,
+            Refusal::Length => 2,
+            Refusal::Limits => 3,
+            Refusal::Form => 4,
+            Refusal::Undeclared => 5,
+            Refusal::Sizes => 6,
+            Refusal::Room { .. } => 7,
+            Refusal::List => 8,
+            Refusal::Rules => 9,
+        }
+    }
+
+    // "7 also returns the length needed"
+    pub fn needed(self) -> usize
+        ensures { result ≡ needed_of self }
+    {
+        match self {
+            Refusal::Room { needed } => needed,
+            _ => 0,
+        }
+    }
 }

@@ -3,12 +3,9 @@ use mathlib.Core.Path.{◌≡◌}
 use mathlib.Core.Bool.{true, ◌&&◌}
 use Prim.Native.Nat.{ℕ, ◌≤◌}
 use lib.Dec.{leb}
-use borrow.Author.Tests.{le-leb, leb-true}
+use borrow.Author.Tests.{leb-true}
 use Rattle.basics.proofs.Tests.{and_left, and_right}
 use Rattle.meaning.specs.Format.{counts_fit}
-
-pub counts_fit_by : (v l a s : ℕ) → v ≤ 32 → l ≤ v → a ≤ 8 → counts_fit v l a s ≡ leb s 64
-counts_fit_by v l a s p q r = rw (le-leb v 32 p, le-leb l v q, le-leb a 8 r)
 
 pub arrays_within : (v l a s : ℕ) → counts_fit v l a s ≡ true → a ≤ 8
 arrays_within v l a s e =

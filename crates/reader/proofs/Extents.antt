@@ -1,4 +1,5 @@
--- How much is read: as many lengths and statements as the counts say, the lengths from two bytes each; and no refusal is 0.
+-- How much is read: as many lengths and statements as the counts say, the lengths from two bytes each.
+use Rattle.std.specs.Prelude.{Option, Some, None}
 use mathlib.Core.Path.{◌≡◌, refl, ap, ◌∙◌}
 use mathlib.Core.Bool.{Bool, true, false}
 use mathlib.Core.List.{List, [], ◌∷◌}
@@ -9,20 +10,18 @@ use lib.ListN.{length, take, drop, length-drop}
 use lib.Seq.{drop-drop}
 use borrow.Author.Tests.{leb-true}
 use Rattle.meaning.specs.declared.Statement.{Statement}
-use Rattle.meaning.specs.declared.Record.{Record}
-use Rattle.meaning.specs.declared.Record.TheVariants.{Broken, Whole}
 use Rattle.meaning.specs.Numbers.{refused, done}
 use Rattle.meaning.specs.Block.{declares_statement}
 use Rattle.meaning.specs.Format.{Rest, number, length_fits, in_front, read_record, read_lengths, read_statements}
 
 abbrev pub LengthsExtent : ℕ → List ℕ → Rest (List ℕ) → Type 0
-LengthsExtent n bytes (refused number) = number ≡ 0 → ⊥
+LengthsExtent n bytes (refused number) = Unit {0}
 LengthsExtent n bytes (done read) = (length read.0 ≡ n) × (read.1 ≡ drop (n + n) bytes) × (n + n ≤ length bytes)
 
 one_more :
     (n x : ℕ) (bytes : List ℕ) (rest : Rest (List ℕ)) → 2 ≤ length bytes → LengthsExtent n (drop 2 bytes) rest
     → LengthsExtent (suc n) bytes (in_front x rest)
-one_more n x bytes (refused number) two extent = extent
+one_more n x bytes (refused number) two extent = tt
 one_more n x bytes (done read) two extent =
     let further : 2 + (n + n) ≡ suc n + suc n = omega arith in
     (ap suc extent.0, extent.1 ∙ rw (drop-drop, further), omega (arith, extent.2, length-drop 2 bytes))
@@ -31,8 +30,8 @@ length_by_length :
     (a b : Bool) (n x : ℕ) (bytes : List ℕ) (rest : Rest (List ℕ)) → leb 2 (length bytes) ≡ a → LengthsExtent n (drop 2 bytes) rest
     → LengthsExtent (suc n) bytes (elim a [ false ↦ refused 4 | true ↦ elim b [ false ↦ refused 3 | true ↦ in_front x rest ] ])
 length_by_length true true n x bytes rest e extent = one_more n x bytes rest (leb-true 2 (length bytes) e) extent
-length_by_length true false n x bytes rest e extent = λ (z : ◌≡◌ {A = ℕ} 3 0). omega arith
-length_by_length false b n x bytes rest e extent = λ (z : ◌≡◌ {A = ℕ} 4 0). omega arith
+length_by_length true false n x bytes rest e extent = tt
+length_by_length false b n x bytes rest e extent = tt
 
 pub lengths_extent : (n : ℕ) (bytes : List ℕ) → LengthsExtent n bytes (read_lengths n bytes)
 unfolding read_lengths
@@ -56,18 +55,18 @@ declared_or_not true n s rest extent = one_statement n s rest extent
 declared_or_not false n s rest extent = tt
 
 record_by_record :
-    (a : Bool) (found : Record) (n variables : ℕ) (sizes : List ℕ) (rest : Rest (List Statement)) → StatementsExtent n rest
+    (a : Bool) (found : Option Statement) (n variables : ℕ) (sizes : List ℕ) (rest : Rest (List Statement)) → StatementsExtent n rest
     → StatementsExtent (suc n)
     (elim a [
       | false ↦ refused 4
       | true ↦
           elim found [
-            | Broken ↦ refused 4
-            | Whole s ↦ elim (declares_statement variables sizes s) [ false ↦ refused 5 | true ↦ in_front s rest ]
+            | None ↦ refused 4
+            | Some s ↦ elim (declares_statement variables sizes s) [ false ↦ refused 5 | true ↦ in_front s rest ]
           ]
     ])
-record_by_record true Broken n variables sizes rest extent = tt
-record_by_record true (Whole s) n variables sizes rest extent = declared_or_not (declares_statement variables sizes s) n s rest extent
+record_by_record true None n variables sizes rest extent = tt
+record_by_record true (Some s) n variables sizes rest extent = declared_or_not (declares_statement variables sizes s) n s rest extent
 record_by_record false found n variables sizes rest extent = tt
 
 pub statements_extent :

@@ -1,7 +1,6 @@
 pub mod Numbers
 pub mod Operands
 pub mod Counts
-pub mod Declared
 pub mod Records
 pub mod Next
 pub mod Turns

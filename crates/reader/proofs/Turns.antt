@@ -1,30 +1,23 @@
 -- What remains of each loop, turn by turn: the array lengths and the statements go into their slots from the front.
+use Rattle.std.specs.Prelude.{Option, Some, None}
 use mathlib.Core.Path.{◌≡◌, refl, sym, ap, ◌∙◌}
 use mathlib.Core.Bool.{Bool, true, false}
 use mathlib.Core.List.{List, [], ◌∷◌}
-use Prim.Native.Nat.{ℕ, suc, ◌+◌, ◌-◌, ◌≤◌, ◌<◌}
+use Prim.Native.Nat.{ℕ, suc, ◌+◌, ◌*◌, ◌-◌, ◌≤◌, ◌<◌}
 use native.Mathlib.Numerals.{add-one}
 use native.Mathlib.Omega.{arith}
 use lib.Dec.{leb}
 use lib.ListN.{length, take, drop, set, length-drop, drop_of_length-le}
 use borrow.Author.Tests.{ne_eqb}
 use lib.Seq.{drop-drop}
-use Rattle.basics.specs.Choice.{pick}
 use Rattle.basics.proofs.Counting.{more, none_left}
 use Rattle.meaning.specs.declared.Statement.{Statement}
-use Rattle.meaning.specs.declared.Record.{Record}
-use Rattle.meaning.specs.declared.Record.TheVariants.{Broken, Whole}
-use Rattle.meaning.specs.Numbers.{refused, done}
+use Rattle.meaning.specs.declared.Block.{Block as Slots}
+use Rattle.meaning.specs.Numbers.{Answer, refused, done, demand}
 use Rattle.meaning.specs.Block.{declares_statement}
 use Rattle.meaning.specs.Format.{Rest, number, length_fits, in_front, read_record, read_lengths, read_statements}
-use Rattle.reader.specs.declared.LengthsRead.{LengthsRead}
-use Rattle.reader.specs.declared.NextLength.{NextLength}
-use Rattle.reader.specs.declared.NextLength.TheVariants.{Refused, Length}
-use Rattle.reader.specs.declared.NextStatement.{NextStatement}
-use Rattle.reader.specs.declared.NextStatement.TheVariants.{Refused as Stopped, Read}
-use Rattle.reader.specs.declared.BlockRead.{BlockRead}
 use Rattle.reader.specs.declared.Header.{Header}
-use Rattle.reader.specs.Answers.{no_lengths, lengths_read, refusal, block_behind}
+use Rattle.reader.specs.Answers.{lengths_read, block_behind}
 use Rattle.reader.specs.Next.{next_length, record_next, next_statement}
 
 -- The array lengths.
@@ -33,15 +26,21 @@ slot_length : (slots : List ℕ) (i x : ℕ) (rest : Rest (List ℕ)) → length
 slot_length slots i x (refused number) = refl
 slot_length slots i x (done read) = rw add-one
 
+-- the place of a length, as the code says it
+pub twice : (i : ℕ) (bytes : List ℕ) (read : Answer ℕ) → read ≡ next_length (drop (2 * i) bytes) → read ≡ next_length (drop (i + i) bytes)
+twice i bytes read e =
+    let same : 2 * i ≡ i + i = omega arith in
+    e ∙ rw same
+
 -- what one turn makes of what remains
-abbrev after_length : List ℕ → ℕ → Rest (List ℕ) → NextLength → LengthsRead
-after_length slots i rest (Refused status) = record { status = status; lengths = no_lengths }
-after_length slots i rest (Length x) = lengths_read (set slots i x) (i + 1) rest
+abbrev after_length : List ℕ → ℕ → Rest (List ℕ) → Answer ℕ → Answer (List ℕ)
+after_length slots i rest (refused number) = refused number
+after_length slots i rest (done x) = lengths_read (set slots i x) (i + 1) rest
 
 length_turn :
     (a b : Bool) (slots : List ℕ) (i x : ℕ) (rest : Rest (List ℕ))
     → lengths_read slots i (elim a [ false ↦ refused 4 | true ↦ elim b [ false ↦ refused 3 | true ↦ in_front x rest ] ])
-    ≡ after_length slots i rest (pick a (pick b (Length x) (Refused 3)) (Refused 4))
+    ≡ after_length slots i rest (demand a 4 (demand b 3 (done x)))
 length_turn true true slots i x rest = slot_length slots i x rest
 length_turn true false slots i x rest = refl
 length_turn false b slots i x rest = refl
@@ -54,17 +53,17 @@ lengths_step slots i n bytes =
     length_turn (leb 2 (length bytes)) (length_fits (number (take 2 bytes))) slots i (number (take 2 bytes)) (read_lengths n (drop 2 bytes))
 
 module _ (bytes slots : List ℕ) (n i : ℕ) where
-  pub lengths_end : n ≤ i → lengths_read slots i (read_lengths (n - i) (drop (i + i) bytes)) ≡ record { status = 0; lengths = slots }
+  pub lengths_end : n ≤ i → lengths_read slots i (read_lengths (n - i) (drop (i + i) bytes)) ≡ done slots
   unfolding read_lengths
   lengths_end h = rw (none_left n i h)
 
   pub lengths_stop :
-      (status : ℕ) → i < n → next_length (drop (i + i) bytes) ≡ Refused status
-      → lengths_read slots i (read_lengths (n - i) (drop (i + i) bytes)) ≡ record { status = status; lengths = no_lengths }
-  lengths_stop status h e = rw (more n i h) (lengths_step slots i (n - (i + 1)) (drop (i + i) bytes) ∙ rw e)
+      (number : ℕ) → i < n → next_length (drop (i + i) bytes) ≡ refused number
+      → lengths_read slots i (read_lengths (n - i) (drop (i + i) bytes)) ≡ refused number
+  lengths_stop number h e = rw (more n i h) (lengths_step slots i (n - (i + 1)) (drop (i + i) bytes) ∙ rw e)
 
   pub lengths_more :
-      (x : ℕ) → i < n → next_length (drop (i + i) bytes) ≡ Length x
+      (x : ℕ) → i < n → next_length (drop (i + i) bytes) ≡ done x
       → lengths_read slots i (read_lengths (n - i) (drop (i + i) bytes))
       ≡ lengths_read (set slots i x) (i + 1) (read_lengths (n - (i + 1)) (drop (i + 1 + (i + 1)) bytes))
   lengths_more x h e =
@@ -87,21 +86,21 @@ module _ (header : Header) (lengths : List ℕ) where
   slot_statement slots i s (done read) = rw add-one
 
   -- what one turn makes of what remains
-  abbrev after_statement : List Statement → ℕ → (ℕ → Rest (List Statement)) → NextStatement → BlockRead
-  after_statement slots i rest (Stopped status) = refusal status
-  after_statement slots i rest (Read s next) = block_behind header lengths (set slots i s) (i + 1) (rest next)
+  abbrev after_statement : List Statement → ℕ → (ℕ → Rest (List Statement)) → Answer (Statement × ℕ) → Answer Slots
+  after_statement slots i rest (refused number) = refused number
+  after_statement slots i rest (done read) = block_behind header lengths (set slots i read.0) (i + 1) (rest read.1)
 
   declared_turn :
       (a : Bool) (slots : List Statement) (i : ℕ) (s : Statement) (next : ℕ) (rest : ℕ → Rest (List Statement)) (tail : Rest (List Statement))
       → tail ≡ rest next
       → block_behind header lengths slots i (elim a [ false ↦ refused 5 | true ↦ in_front s tail ])
-      ≡ after_statement slots i rest (pick a (Read s next) (Stopped 5))
+      ≡ after_statement slots i rest (demand a 5 (done (s, next)))
   declared_turn true slots i s next rest tail e =
       slot_statement slots i s tail ∙ ap (block_behind header lengths (set slots i s) (i + 1)) e
   declared_turn false slots i s next rest tail e = refl
 
   statement_turn :
-      (a : Bool) (variables : ℕ) (sizes : List ℕ) (found : Record) (slots : List Statement) (i next : ℕ)
+      (a : Bool) (variables : ℕ) (sizes : List ℕ) (found : Option Statement) (slots : List Statement) (i next : ℕ)
       (rest : ℕ → Rest (List Statement)) (tail : Rest (List Statement))
       → tail ≡ rest next
       → block_behind header lengths slots i
@@ -109,13 +108,13 @@ module _ (header : Header) (lengths : List ℕ) where
         | false ↦ refused 4
         | true ↦
             elim found [
-              | Broken ↦ refused 4
-              | Whole s ↦ elim (declares_statement variables sizes s) [ false ↦ refused 5 | true ↦ in_front s tail ]
+              | None ↦ refused 4
+              | Some s ↦ elim (declares_statement variables sizes s) [ false ↦ refused 5 | true ↦ in_front s tail ]
             ]
       ])
-      ≡ after_statement slots i rest (pick a (record_next variables sizes next found) (Stopped 4))
-  statement_turn true variables sizes Broken slots i next rest tail e = refl
-  statement_turn true variables sizes (Whole s) slots i next rest tail e =
+      ≡ after_statement slots i rest (demand a 4 (record_next variables sizes next found))
+  statement_turn true variables sizes None slots i next rest tail e = refl
+  statement_turn true variables sizes (Some s) slots i next rest tail e =
       declared_turn (declares_statement variables sizes s) slots i s next rest tail e
   statement_turn false variables sizes found slots i next rest tail e = refl
 
@@ -132,13 +131,13 @@ module _ (header : Header) (lengths : List ℕ) where
 
   module _ (variables : ℕ) (sizes bytes : List ℕ) (slots : List Statement) (n i start : ℕ) where
     pub statements_stop :
-        (status : ℕ) → i < n → next_statement variables sizes start (drop start bytes) ≡ Stopped status
-        → block_behind header lengths slots i (read_statements (n - i) variables sizes (drop start bytes)) ≡ refusal status
-    statements_stop status h e =
+        (number : ℕ) → i < n → next_statement variables sizes start (drop start bytes) ≡ refused number
+        → block_behind header lengths slots i (read_statements (n - i) variables sizes (drop start bytes)) ≡ refused number
+    statements_stop number h e =
         rw (more n i h) (statements_step variables sizes slots i (n - (i + 1)) start bytes (drop start bytes) refl ∙ rw e)
 
     pub statements_more :
-        (s : Statement) (next : ℕ) → i < n → next_statement variables sizes start (drop start bytes) ≡ Read s next
+        (s : Statement) (next : ℕ) → i < n → next_statement variables sizes start (drop start bytes) ≡ done (s, next)
         → block_behind header lengths slots i (read_statements (n - i) variables sizes (drop start bytes))
         ≡ block_behind header lengths (set slots i s) (i + 1) (read_statements (n - (i + 1)) variables sizes (drop next bytes))
     statements_more s next h e =
@@ -146,7 +145,7 @@ module _ (header : Header) (lengths : List ℕ) where
 
     pub bytes_left :
         n ≤ i → start < length bytes
-        → block_behind header lengths slots i (read_statements (n - i) variables sizes (drop start bytes)) ≡ refusal 4
+        → block_behind header lengths slots i (read_statements (n - i) variables sizes (drop start bytes)) ≡ refused 4
     unfolding read_statements
     bytes_left h left =
         rw (none_left n i h, ne_eqb (length (drop start bytes)) 0 (λ e. absurd (omega (arith, e, length-drop start bytes))))

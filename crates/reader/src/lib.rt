@@ -7,60 +7,31 @@ ghost use Rattle.std.specs.Prelude.{◌≡◌, ◌+◌, ◌*◌, ◌≤◌, ◌<
 ghost use Rattle.basics.specs.Choice.{pick};
 ghost use Rattle.meaning.specs.declared.Place.TheVariants.{Cell};
 ghost use Rattle.meaning.specs.declared.Operand.TheVariants.{Nothing};
-ghost use Rattle.meaning.specs.Block.{declares_place, declares_operand, declares_statement};
-ghost use Rattle.meaning.specs.Format.{place_width, operand_width, statement_width, is_operand, well_formed, counts_fit};
-ghost use Rattle.meaning.specs.Format.{read_operand, read_statement, whole, read_record, read_lengths};
+ghost use Rattle.meaning.specs.Numbers.{map_answer};
+ghost use Rattle.meaning.specs.Refusals.{answered};
+ghost use Rattle.meaning.specs.Block.{declared, declares_place, declares_operand, declares_statement};
+ghost use Rattle.meaning.specs.Format.{place_width, operand_width, statement_width, is_operand, well_formed, counts_fit, length_fits};
+ghost use Rattle.meaning.specs.Format.{read_operand, read_statement, whole, read_record, read_lengths, read_block, in_memory};
 ghost use Rattle.meaning.specs.Calls.{read_block_call};
 ghost use Rattle.reader.specs.Answers.{answer, refusal, lengths_read, statements_of, block_behind, no_lengths, no_statements, counted};
 ghost use Rattle.reader.specs.Next.{next_length, next_statement};
 
-use meaning::{Block, Operand, Place, Record, Statement};
+use meaning::{Block, Operand, Place, Refusal, Statement};
 
 // Reading an operand.
 
-// "big-endian": two bytes, and four, as a number.
-pub fn two(high: u8, low: u8) -> u16
-    ensures { result ≡ high * 256 + low }
-{
-    high as u16 * 256 + low as u16
-}
-
-pub fn four(first: u8, second: u8, third: u8, fourth: u8) -> u32
-    ensures { result ≡ ((first * 256 + second) * 256 + third) * 256 + fourth }
-{
-    ((first as u32 * 256 + second as u32) * 256 + third as u32) * 256 + fourth as u32
-}
-
 // "Constant: 0 and 4 bytes. Variable: 1 and its number. Cell: 2, array, index." Nothing where the
 // bytes end early or the kind is unknown.
+#[tactic(auto, using(crate::proofs::Operands::constant, crate::proofs::Operands::variable, crate::proofs::Operands::cell, crate::proofs::Operands::missing))]
 pub fn read_operand(bytes: &[u8]) -> Operand
     ensures { result ≡ read_operand bytes.now }
 {
-    if bytes.len() == 0 {
-        return Operand::Nothing;
-    }
-    match bytes[0] {
-        0 => {
-            if bytes.len() < 5 {
-                Operand::Nothing
-            } else {
-                Operand::Constant(four(bytes[1], bytes[2], bytes[3], bytes[4]))
-            }
+    match bytes {
+        [0, first, second, third, fourth, ..] => {
+            Operand::Constant(u32::from_be_bytes([*first, *second, *third, *fourth]))
         }
-        1 => {
-            if bytes.len() < 2 {
-                Operand::Nothing
-            } else {
-                Operand::Held(Place::Variable(bytes[1]))
-            }
-        }
-        2 => {
-            if bytes.len() < 3 {
-                Operand::Nothing
-            } else {
-                Operand::Held(Place::Cell(bytes[1], bytes[2]))
-            }
-        }
+        [1, variable, ..] => Operand::Held(Place::Variable(*variable)),
+        [2, array, index, ..] => Operand::Held(Place::Cell(*array, *index)),
         _ => Operand::Nothing,
     }
 }
@@ -69,11 +40,7 @@ pub fn read_operand(bytes: &[u8]) -> Operand
 pub fn operand_at(bytes: &[u8], start: usize) -> Operand
     ensures { result ≡ read_operand (drop start bytes.now) }
 {
-    if start <= bytes.len() {
-        read_operand(&bytes[start..])
-    } else {
-        Operand::Nothing
-    }
+    read_operand(bytes.get(start..).unwrap_or(&[]))
 }
 
 // How many bytes a place, an operand and a statement take.
@@ -99,10 +66,9 @@ pub fn operand_width(operand: Operand) -> usize
 pub fn statement_width(statement: Statement) -> usize
     ensures { result ≡ statement_width statement }
 {
-    let destination = statement.destination;
-    let left = statement.left;
-    let right = statement.right;
-    1 + place_width(destination) + operand_width(left) + operand_width(right)
+    1 + place_width(statement.destination)
+        + operand_width(statement.left)
+        + operand_width(statement.right)
 }
 
 // Reading a record.
@@ -110,32 +76,16 @@ pub fn statement_width(statement: Statement) -> usize
 pub fn is_operand(operand: Operand) -> bool
     ensures { result ≡ is_operand operand }
 {
-    match operand {
-        Operand::Nothing => false,
-        Operand::Constant(_) => true,
-        Operand::Held(_) => true,
-    }
+    matches!(operand, Operand::Constant(_) | Operand::Held(_))
 }
 
 // An operation up to 7, a left operand, and a right one except for copy.
 pub fn well_formed(statement: Statement) -> bool
     ensures { result ≡ well_formed statement }
 {
-    let operation = statement.operation;
-    let left = statement.left;
-    let right = statement.right;
-    if operation > 7 {
-        return false;
-    }
-    if is_operand(left) {
-        if operation == 0 {
-            if is_operand(right) { false } else { true }
-        } else {
-            is_operand(right)
-        }
-    } else {
-        false
-    }
+    statement.operation <= 7
+        && is_operand(statement.left)
+        && is_operand(statement.right) != (statement.operation == 0)
 }
 
 // "except for copy, right": the operation stands in front of the bytes.
@@ -151,7 +101,7 @@ fn right_at(bytes: &[u8], operation: u8, start: usize) -> Operand
 
 // The statement that a record with this operation and destination says, where it says one and no
 // byte more.
-fn read_behind(bytes: &[u8], operation: u8, destination: Place) -> Record
+fn read_behind(bytes: &[u8], operation: u8, destination: Place) -> Option<Statement>
     requires { operation ≡ get_or bytes.now 0 0 }
     ensures { result ≡ whole bytes.now (read_statement bytes.now destination) }
 {
@@ -164,63 +114,34 @@ fn read_behind(bytes: &[u8], operation: u8, destination: Place) -> Record
         left,
         right,
     };
-    if well_formed(statement) {
-        if bytes.len() == statement_width(statement) {
-            return Record::Whole(statement);
-        }
-    }
-    Record::Broken
+    (well_formed(statement) && bytes.len() == statement_width(statement)).then_some(statement)
 }
 
 // "Each statement begins with one byte that counts the rest of its record": here is that rest. A
 // constant as destination is no place.
-pub fn read_record(bytes: &[u8]) -> Record
+pub fn read_record(bytes: &[u8]) -> Option<Statement>
     ensures { result ≡ read_record bytes.now }
 {
-    if bytes.len() == 0 {
-        return Record::Broken;
-    }
-    let destination = read_operand(&bytes[1..]);
-    match destination {
-        Operand::Held(place) => read_behind(bytes, bytes[0], place),
-        Operand::Constant(_) => Record::Broken,
-        Operand::Nothing => Record::Broken,
+    let operation = *bytes.first()?;
+    match read_operand(&bytes[1..]) {
+        Operand::Held(place) => read_behind(bytes, operation, place),
+        Operand::Constant(_) | Operand::Nothing => None,
     }
 }
 
 // What is declared.
 
-pub fn wide(x: u8) -> usize
-    ensures { result ≡ x }
-{
-    x as usize
-}
-
-// A cell is declared where its array is and its index is below that array's length. As a slice the
-// lengths say how many slots there are.
-fn declares_cell(array: u8, index: u8, arrays: u8, lengths: &[u16]) -> bool
-    ensures { result ≡ declares_place 0 (take arrays lengths.now) (Cell array index) }
-{
-    if array < arrays {
-        let slot = wide(array);
-        if slot < lengths.len() {
-            let size = lengths[slot];
-            (index as u16) < size
-        } else {
-            false
-        }
-    } else {
-        false
-    }
-}
-
-// "variable, array or index not declared" is 5. Of the lengths, the first so many are declared.
+// "variable, array or index not declared" is 5. Of the lengths, the first so many are declared: a cell
+// is where its array is one of those and its index is below that array's length.
 pub fn declares_place(place: Place, variables: u8, arrays: u8, lengths: &[u16; 8]) -> bool
     ensures { result ≡ declares_place variables (take arrays lengths.now) place }
 {
     match place {
         Place::Variable(variable) => variable < variables,
-        Place::Cell(array, index) => declares_cell(array, index, arrays, lengths),
+        Place::Cell(array, index) => {
+            array < arrays
+                && u16::from(index) < lengths.get(usize::from(array)).copied().unwrap_or(0)
+        }
     }
 }
 
@@ -228,8 +149,7 @@ pub fn declares_operand(operand: Operand, variables: u8, arrays: u8, lengths: &[
     ensures { result ≡ declares_operand variables (take arrays lengths.now) operand }
 {
     match operand {
-        Operand::Nothing => true,
-        Operand::Constant(_) => true,
+        Operand::Nothing | Operand::Constant(_) => true,
         Operand::Held(place) => declares_place(place, variables, arrays, lengths),
     }
 }
@@ -242,23 +162,15 @@ pub fn declares_statement(
 ) -> bool
     ensures { result ≡ declares_statement variables (take arrays lengths.now) statement }
 {
-    let destination = statement.destination;
-    let left = statement.left;
-    let right = statement.right;
-    if declares_place(destination, variables, arrays, lengths) {
-        if declares_operand(left, variables, arrays, lengths) {
-            declares_operand(right, variables, arrays, lengths)
-        } else {
-            false
-        }
-    } else {
-        false
-    }
+    declares_place(statement.destination, variables, arrays, lengths)
+        && declares_operand(statement.left, variables, arrays, lengths)
+        && declares_operand(statement.right, variables, arrays, lengths)
 }
 
 // Reading a block.
 
-// What reading a block returns: zeros beside a refusal.
+// What reading a block returns: zeros beside a refusal. `read_block` promises these zeros, so it stays a number with a
+// block; `parse_block` answers by a Result.
 #[derive(Clone, Copy)]
 pub struct BlockRead {
     pub status: u8,
@@ -274,191 +186,124 @@ struct Header {
     statements: u8,
 }
 
-// The array lengths, zeros beside a refusal.
-#[derive(Clone, Copy)]
-struct LengthsRead {
-    status: u8,
-    lengths: [u16; 8],
-}
-
-// One array's length, or the number of its refusal.
-#[derive(Clone, Copy)]
-enum NextLength {
-    Refused(u8),
-    Length(u16),
-}
-
-// One statement and where the next record starts, or the number of the refusal.
-#[derive(Clone, Copy)]
-enum NextStatement {
-    Refused(u8),
-    Read(Statement, usize),
-}
-
+#[tactic(auto, unfolding(crate::specs::Answers::refusal, crate::specs::Answers::no_lengths, crate::specs::Answers::no_statements))]
 fn refuse(status: u8) -> BlockRead
     ensures { result ≡ refusal status }
 {
-    let blank = Statement {
-        operation: 0,
-        destination: Place::Variable(0),
-        left: Operand::Nothing,
-        right: Operand::Nothing,
-    };
-    let lengths = [0u16; 8];
-    let statements = [blank; 64];
     let block = Block {
         variables: 0,
         live: 0,
         arrays: 0,
         count: 0,
-        lengths,
-        statements,
+        lengths: [0; 8],
+        statements: [Statement::BLANK; 64],
     };
     BlockRead { status, block }
 }
 
+// "length 0" and a length over its limit are 3
+fn length_fits(size: u16) -> bool
+    ensures { result ≡ length_fits size }
+{
+    (1..=256).contains(&size)
+}
+
 // "4 if the bytes end, else 3"
-fn read_length(bytes: &[u8], start: usize) -> NextLength
+fn read_length(bytes: &[u8], start: usize) -> Result<u16, Refusal>
     requires { start < 256 }
-    ensures { result ≡ next_length (drop start bytes.now) }
+    ensures { answered result ≡ next_length (drop start bytes.now) }
 {
     if bytes.len() < start + 2 {
-        return NextLength::Refused(4);
+        return Err(Refusal::Form);
     }
-    let size = two(bytes[start], bytes[start + 1]);
-    if size < 1 {
-        return NextLength::Refused(3);
+    let size = u16::from_be_bytes([bytes[start], bytes[start + 1]]);
+    if length_fits(size) {
+        Ok(size)
+    } else {
+        Err(Refusal::Limits)
     }
-    if size > 256 {
-        return NextLength::Refused(3);
-    }
-    NextLength::Length(size)
 }
 
 // "each array's length (2 bytes)", array by array
-fn read_lengths(bytes: &[u8], arrays: u8) -> LengthsRead
+fn read_lengths(bytes: &[u8], arrays: u8) -> Result<[u16; 8], Refusal>
     requires { arrays ≤ 8 }
-    ensures { result ≡ lengths_read no_lengths 0 (read_lengths arrays bytes.now) }
+    ensures { answered result ≡ lengths_read no_lengths 0 (read_lengths arrays bytes.now) }
 {
-    let none = [0u16; 8];
     let mut lengths = [0u16; 8];
-    let count = wide(arrays);
-    let mut i = 0;
-    while i < count {
-        let next = read_length(bytes, i + i);
-        match next {
-            NextLength::Refused(status) => {
-                return LengthsRead {
-                    status,
-                    lengths: none,
-                };
-            }
-            NextLength::Length(size) => {
-                lengths[i] = size;
-            }
-        }
-        i += 1;
+    for i in 0..usize::from(arrays) {
+        lengths[i] = read_length(bytes, 2 * i)?;
     }
-    LengthsRead { status: 0, lengths }
+    Ok(lengths)
 }
 
-// The record is whole before its names are looked at: "4 before 5".
+// The record is whole before its names are looked at: "4 before 5". Beside the statement is where the
+// next record starts.
 fn read_next(
     bytes: &[u8],
     start: usize,
     variables: u8,
     arrays: u8,
     lengths: &[u16; 8],
-) -> NextStatement
-    ensures { result ≡ next_statement variables (take arrays lengths.now) start (drop start bytes.now) }
+) -> Result<(Statement, usize), Refusal>
+    ensures { answered result ≡ next_statement variables (take arrays lengths.now) start (drop start bytes.now) }
 {
-    if bytes.len() <= start {
-        return NextStatement::Refused(4);
-    }
-    let size = wide(bytes[start]);
+    let size = *bytes.get(start).ok_or(Refusal::Form)?;
     let from = start + 1;
-    if bytes.len() - from < size {
-        return NextStatement::Refused(4);
-    }
-    let next = from + size;
-    match read_record(&bytes[from..next]) {
-        Record::Broken => NextStatement::Refused(4),
-        Record::Whole(statement) => {
-            if declares_statement(statement, variables, arrays, lengths) {
-                NextStatement::Read(statement, next)
-            } else {
-                NextStatement::Refused(5)
-            }
-        }
+    let next = from + usize::from(size);
+    let record = bytes.get(from..next).ok_or(Refusal::Form)?;
+    let statement = read_record(record).ok_or(Refusal::Form)?;
+    if declares_statement(statement, variables, arrays, lengths) {
+        Ok((statement, next))
+    } else {
+        Err(Refusal::Undeclared)
     }
 }
 
 // The statements, "record by record", and "then bytes left over (4)".
-fn read_statements(bytes: &[u8], header: Header, lengths: &[u16; 8]) -> BlockRead
+fn read_statements(bytes: &[u8], header: Header, lengths: &[u16; 8]) -> Result<Block, Refusal>
     requires { header.statements ≤ 64 }
-    ensures { result ≡ block_behind header lengths.now no_statements 0 (statements_of header lengths.now bytes.now) }
+    ensures { answered result ≡ block_behind header lengths.now no_statements 0 (statements_of header lengths.now bytes.now) }
 {
-    let blank = Statement {
-        operation: 0,
-        destination: Place::Variable(0),
-        left: Operand::Nothing,
-        right: Operand::Nothing,
-    };
-    let mut statements = [blank; 64];
-    let variables = header.variables;
-    let arrays = header.arrays;
-    let count = wide(header.statements);
+    let mut statements = [Statement::BLANK; 64];
     let mut start = 0;
-    let mut i = 0;
-    while i < count {
-        let next = read_next(bytes, start, variables, arrays, lengths);
-        match next {
-            NextStatement::Refused(status) => {
-                return refuse(status);
-            }
-            NextStatement::Read(statement, behind) => {
-                statements[i] = statement;
-                start = behind;
-            }
-        }
-        i += 1;
+    for i in 0..usize::from(header.statements) {
+        let (statement, behind) = read_next(
+            bytes,
+            start,
+            header.variables,
+            header.arrays,
+            lengths,
+        )?;
+        statements[i] = statement;
+        start = behind;
     }
     if start < bytes.len() {
-        return refuse(4);
+        return Err(Refusal::Form);
     }
-    let sizes = *lengths;
-    let block = Block {
-        variables,
+    Ok(Block {
+        variables: header.variables,
         live: header.live,
-        arrays,
+        arrays: header.arrays,
         count: header.statements,
-        lengths: sizes,
+        lengths: *lengths,
         statements,
-    };
-    BlockRead { status: 0, block }
+    })
 }
 
 // "a count .. over its limit .. or live-out above variables" is 3
 fn counts_fit(header: Header) -> bool
     ensures { result ≡ counts_fit header.variables header.live header.arrays header.statements }
 {
-    let variables = header.variables;
-    if variables > 32 {
-        return false;
-    }
-    if header.live > variables {
-        return false;
-    }
-    if header.arrays > 8 {
-        return false;
-    }
-    header.statements <= 64
+    header.variables <= 32
+        && header.live <= header.variables
+        && header.arrays <= 8
+        && header.statements <= 64
 }
 
 // What follows the stated length: the counts, and what they announce.
-fn read_counted(bytes: &[u8]) -> BlockRead
+fn read_counted(bytes: &[u8]) -> Result<Block, Refusal>
     requires { 7 ≤ length bytes.now }
-    ensures { answer result ≡ counted bytes.now }
+    ensures { answered result ≡ counted bytes.now }
 {
     let header = Header {
         variables: bytes[3],
@@ -466,35 +311,38 @@ fn read_counted(bytes: &[u8]) -> BlockRead
         arrays: bytes[5],
         statements: bytes[6],
     };
-    if counts_fit(header) {
-        let arrays = header.arrays;
-        let read = read_lengths(&bytes[7..], arrays);
-        let status = read.status;
-        if status != 0 {
-            return refuse(status);
-        }
-        let lengths = read.lengths;
-        let count = wide(arrays);
-        let start = 7 + (count + count);
-        read_statements(&bytes[start..], header, &lengths)
-    } else {
-        refuse(3)
+    if !counts_fit(header) {
+        return Err(Refusal::Limits);
     }
+    let lengths = read_lengths(&bytes[7..], header.arrays)?;
+    let start = 7 + 2 * usize::from(header.arrays);
+    read_statements(&bytes[start..], header, &lengths)
 }
 
 // The order of the refusals is that of the tests.
+pub fn parse_block(bytes: &[u8]) -> Result<Block, Refusal>
+    ensures in_slots { answered result ≡ map_answer in_memory (read_block bytes.now) }
+    ensures declares { map_answer declared (answered result) ≡ read_block bytes.now }
+{
+    if bytes.len() < 7 {
+        return Err(Refusal::Length);
+    }
+    if bytes[0] != 1 {
+        return Err(Refusal::Version);
+    }
+    let stated = u16::from_be_bytes([bytes[1], bytes[2]]);
+    if usize::from(stated) != bytes.len() {
+        return Err(Refusal::Length);
+    }
+    read_counted(bytes)
+}
+
+// "A refusal returns zeros beside its number."
 pub fn read_block(bytes: &[u8]) -> BlockRead
     ensures { answer result ≡ read_block_call bytes.now }
 {
-    if bytes.len() < 7 {
-        return refuse(2);
+    match parse_block(bytes) {
+        Ok(block) => BlockRead { status: 0, block },
+        Err(refusal) => refuse(refusal.number()),
     }
-    if bytes[0] != 1 {
-        return refuse(1);
-    }
-    let stated = two(bytes[1], bytes[2]) as usize;
-    if stated != bytes.len() {
-        return refuse(2);
-    }
-    read_counted(bytes)
 }

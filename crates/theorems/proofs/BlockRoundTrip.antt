@@ -1,5 +1,6 @@
 -- A block and its bytes: what is read is written as it was read, and what is written is read as it was written, over the definitions and
 -- over the calls.
+use Rattle.std.specs.Prelude.{Some}
 use mathlib.Core.Path.{◌≡◌, refl, sym, ap, ap₂, subst, ◌∙◌}
 use mathlib.Core.Bool.{Bool, true, false, ◌&&◌}
 use mathlib.Core.List.{List, [], ◌∷◌, ◌++◌, map, append_assoc, append-nil}
@@ -15,7 +16,6 @@ use Rattle.basics.proofs.Tests.{and_left, and_right, and_both}
 use Rattle.basics.proofs.Parts.{all_first, all_others, flat_length}
 use Rattle.meaning.specs.declared.Statement.{Statement}
 use Rattle.meaning.specs.declared.Block.{Block as Slots}
-use Rattle.meaning.specs.declared.Record.TheVariants.{Whole}
 use Rattle.meaning.specs.Numbers.{Answer, refused, done, demand}
 use Rattle.meaning.specs.Block.{Block, declared, declares_statement}
 use Rattle.meaning.specs.Format.{number, bytes_of, counts_fit, length_fits, well_formed, statement_bytes, statement_width, read_record, in_front, read_lengths, read_statements, read_block, in_memory, record_bytes, body_bytes, block_bytes, write_block}
@@ -47,7 +47,7 @@ lengths_back (l ∷ ls) rest fit =
 
 -- the statements are read back, one after the other
 found_back : (s : Statement) (behind : List ℕ) → well_formed s ≡ true → constants_fit s ≡ true
-    → read_record (take (statement_width s) (statement_bytes s ++ behind)) ≡ Whole s
+    → read_record (take (statement_width s) (statement_bytes s ++ behind)) ≡ Some s
 found_back s behind formed fit = ap read_record (take_at (statement_bytes s) behind (statement_width s) (statement_length s)) ∙ record_read s formed fit
 
 enough_behind : (s : Statement) (behind : List ℕ) → leb (statement_width s) (length (statement_bytes s ++ behind)) ≡ true

@@ -1,4 +1,5 @@
 -- Reading, step by step: what holds of a reader's answer where it holds along its steps.
+use Rattle.std.specs.Prelude.{Option, Some, None}
 use mathlib.Core.Path.{◌≡◌, refl, ap, ◌∙◌, fun_ext}
 use mathlib.Core.Bool.{Bool, true, false}
 use mathlib.Core.List.{List, ◌∷◌}
@@ -6,8 +7,6 @@ use Prim.Native.Nat.{ℕ, suc, ◌≤◌}
 use lib.Dec.{leb}
 use lib.ListN.{length, take, drop}
 use Rattle.meaning.specs.declared.Statement.{Statement}
-use Rattle.meaning.specs.declared.Record.{Record}
-use Rattle.meaning.specs.declared.Record.TheVariants.{Broken, Whole}
 use Rattle.meaning.specs.Numbers.{Answer, refused, done, demand, and_then}
 use Rattle.meaning.specs.Block.{declares_statement}
 use Rattle.meaning.specs.Format.{number, length_fits, read_record, Rest, in_front, read_lengths, read_statements}
@@ -52,13 +51,13 @@ read_lengths_more n bytes =
     ∙ ap (demand (leb 2 (length bytes)) 4) (elim_demand (length_fits (number (take 2 bytes))) 3 _)
 
 -- what a record says, as an answer
-abbrev pub said : Record → Answer Statement
-said Broken = refused 4
-said (Whole s) = done s
+abbrev pub said : Option Statement → Answer Statement
+said None = refused 4
+said (Some s) = done s
 
-elim_said : {A : Type 0} (found : Record) (next : Statement → Answer A) → elim found [ Broken ↦ refused 4 | Whole s ↦ next s ] ≡ and_then (said found) next
-elim_said Broken next = refl
-elim_said (Whole s) next = refl
+elim_said : {A : Type 0} (found : Option Statement) (next : Statement → Answer A) → elim found [ None ↦ refused 4 | Some s ↦ next s ] ≡ and_then (said found) next
+elim_said None next = refl
+elim_said (Some s) next = refl
 
 -- the statements, one after the other
 pub read_statements_more : (n variables : ℕ) (lengths : List ℕ) (size : ℕ) (bytes : List ℕ)

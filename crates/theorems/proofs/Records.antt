@@ -1,5 +1,6 @@
 -- A statement and its record: "operation, destination, left and, except for copy, right". What is read is what was written, and the
 -- other way round.
+use Rattle.std.specs.Prelude.{Option, Some, None}
 use mathlib.Core.Path.{◌≡◌, refl, sym, ap, ap₂, ◌∙◌}
 use mathlib.Core.Bool.{Bool, true, false, ◌&&◌, not, false≢true}
 use mathlib.Core.List.{List, [], ◌∷◌, ◌++◌, append_assoc, append-nil}
@@ -17,8 +18,6 @@ use Rattle.meaning.specs.declared.Place.{Place}
 use Rattle.meaning.specs.declared.Operand.{Operand}
 use Rattle.meaning.specs.declared.Operand.TheVariants.{Nothing, Constant, Held}
 use Rattle.meaning.specs.declared.Statement.{Statement}
-use Rattle.meaning.specs.declared.Record.{Record}
-use Rattle.meaning.specs.declared.Record.TheVariants.{Broken, Whole}
 use Rattle.meaning.specs.Block.{is_copy}
 use Rattle.meaning.specs.Format.{place_bytes, operand_bytes, place_width, operand_width, read_operand, is_operand, statement_bytes, statement_width, well_formed, read_left, read_right, read_statement, whole, read_behind, read_record}
 use Rattle.meaning.proofs.Lengths.{place_length, operand_length, statement_length}
@@ -96,7 +95,7 @@ behind_said bytes Nothing found = omega arith
 behind_said bytes (Constant c) found = omega arith
 behind_said bytes (Held p) found =
     let s = read_statement bytes p in
-    pick_holds (λ (r : Record). Reads (Said bytes) (said r)) (well_formed s && eqb (length bytes) (statement_width s)) (Whole s) Broken
+    pick_holds (λ (r : Option Statement). Reads (Said bytes) (said r)) (well_formed s && eqb (length bytes) (statement_width s)) (Some s) None
     (λ passed.
     let sized = eqb-true (length bytes) (statement_width s) (and_right (well_formed s) _ passed) in
     record { formed = and_left _ _ passed; fit = read_fits bytes p; sized = sized; written = λ are. read_written bytes p are found sized })
@@ -152,9 +151,9 @@ destination_is : (s : Statement) → read_operand (drop 1 (statement_bytes s)) �
 destination_is s = ap read_operand (behind_operation s) ∙ operand_read (Held s.destination) _ refl refl
 
 -- A statement that is well formed is read back from its bytes.
-pub record_read : (s : Statement) → well_formed s ≡ true → constants_fit s ≡ true → read_record (statement_bytes s) ≡ Whole s
+pub record_read : (s : Statement) → well_formed s ≡ true → constants_fit s ≡ true → read_record (statement_bytes s) ≡ Some s
 unfolding read_record
 record_read s formed fit =
     ap (read_behind (statement_bytes s)) (destination_is s)
     ∙ ap (whole (statement_bytes s)) (statement_is s formed fit)
-    ∙ ap (λ (test : Bool). pick test (Whole s) Broken) (and_both _ _ formed (eq-eqb _ _ (statement_length s)))
+    ∙ ap (λ (test : Bool). pick test (Some s) None) (and_both _ _ formed (eq-eqb _ _ (statement_length s)))

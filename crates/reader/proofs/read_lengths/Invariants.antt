@@ -1,15 +1,11 @@
--- What holds at each turn of the loops of `reader::read_lengths`.
+-- What holds at each turn of the loop of `reader::read_lengths`.
 use Rattle.reader.specs.Answers.{no_lengths, lengths_read}
 use Rattle.meaning.specs.Format.{read_lengths}
 use lib.ListN.{drop}
-use Prim.Native.Nat.{◌+◌, ◌-◌, ◌≤◌}
+use Prim.Native.Nat.{◌+◌, ◌-◌}
 use mathlib.Core.Path.{◌≡◌}
 use Rattle.reader.proofs.read_lengths.Given as goal
 
 abbrev pub invariant-loop-i : goal.invariant-loop-i
-invariant-loop-i l = (l.count ≤ 8)
-    × (l.i ≤ l.count)
-    × (lengths_read no_lengths 0 (read_lengths l.arrays l.bytes) ≡ lengths_read l.lengths l.i (read_lengths (l.count - l.i) (drop (l.i + l.i) l.bytes)))
-
-abbrev pub decreases-loop-i : goal.decreases-loop-i
-decreases-loop-i l = l.count - l.i
+invariant-loop-i l = (l.i-end ≡ l.arrays)
+    × (lengths_read no_lengths 0 (read_lengths l.arrays l.bytes) ≡ lengths_read l.lengths l.i (read_lengths (l.arrays - l.i) (drop (l.i + l.i) l.bytes)))
