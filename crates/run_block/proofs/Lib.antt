@@ -1,3 +1,2 @@
-pub mod Clauses
 pub mod Read
 pub mod Sized

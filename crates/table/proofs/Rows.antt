@@ -1,8 +1,7 @@
 -- The numbers of a table, stored one part behind the other: three for a place or an operand, ten for a statement, 652 for a block.
 use mathlib.Core.Path.{◌≡◌, refl, sym, ap, ◌∙◌}
 use mathlib.Core.List.{List, [], ◌∷◌, ◌++◌, map}
-use Prim.Native.Nat.{ℕ, suc, ◌+◌, ◌*◌, ◌≤◌}
-use native.Mathlib.Numerals.{add-one}
+use Prim.Native.Nat.{ℕ, ◌+◌, ◌*◌, ◌≤◌}
 use native.Mathlib.Omega.{arith}
 use lib.ListN.{length, set, drop, length-append}
 use lib.Seq.{sets}
@@ -40,30 +39,6 @@ pub statements_ten : (ss : List Statement) → length (flat (map statement_numbe
 statements_ten [] = refl
 statements_ten (s ∷ ss) =
     omega (arith, length-append (statement_numbers s) (flat (map statement_numbers ss)), statement_ten s, statements_ten ss)
-
--- a statement's parts, each stored behind the one before
-pub statement_stored : (s : Statement) (table : List ℕ) (at : ℕ)
-    → sets (sets (sets (set table at s.operation) (at + 1) (place_numbers s.destination)) (at + 4) (operand_numbers s.left)) (at + 7) (operand_numbers s.right)
-    ≡ sets table at (statement_numbers s)
-statement_stored s table at =
-    let d = place_numbers s.destination in
-    let l = operand_numbers s.left in
-    let r = operand_numbers s.right in
-    let here : at + 1 ≡ suc at = add-one at in
-    let four : at + 4 ≡ suc at + length d = omega (arith, place_three s.destination) in
-    let seven : at + 7 ≡ suc at + length (d ++ l) =
-    omega (arith, length-append d l, place_three s.destination, operand_three s.left) in
-    rw (here, four, seven)
-    (ap (λ (first : List ℕ). sets first (suc at + length (d ++ l)) r) (sym (sets_append (set table at s.operation) (suc at) d l))
-    ∙ sym (sets_append (set table at s.operation) (suc at) (d ++ l) r))
-
--- lists of one element each, joined
-abbrev pub ones : ℕ → List ℕ
-ones n = n ∷ []
-
-pub flat_ones : (ns : List ℕ) → flat (map ones ns) ≡ ns
-flat_ones [] = refl
-flat_ones (n ∷ ns) = ap {B = List ℕ} (λ rest. n ∷ rest) (flat_ones ns)
 
 -- a block's parts, each stored behind the one before
 pub block_stored : (b : Slots) (table : List ℕ) → length b.lengths ≡ 8

@@ -1,80 +1,51 @@
-// A block in memory put into a lent table of numbers: each function puts its own from a position on,
-// where the table has space for them.
+// A block in memory put into a lent table of numbers, each part where it stands there.
 
-ghost use Rattle.std.specs.Prelude.{◌≡◌, [], ◌∷◌, map, ◌+◌, ◌≤◌, length};
+ghost use Rattle.std.specs.Prelude.{◌≡◌, map, ◌≤◌, length};
 ghost use Rattle.std.proofs.lemmas.List.Edits.{sets};
 ghost use Rattle.basics.specs.Lists.{flat};
 ghost use Rattle.table.specs.Table.{place_numbers, operand_numbers, statement_numbers, table_of};
 
 use meaning::{Block, Operand, Place, Statement};
 
-fn put_three(kind: u32, a: u32, b: u32, table: &mut [u32], at: usize)
-    requires { at + 3 ≤ length table.old }
-    ensures { table.new ≡ sets table.old at (kind ∷ a ∷ b ∷ []) }
-{
-    table[at] = kind;
-    table[at + 1] = a;
-    table[at + 2] = b;
-}
-
-fn put_place(place: Place, table: &mut [u32], at: usize)
-    requires { at + 3 ≤ length table.old }
-    ensures { table.new ≡ sets table.old at (place_numbers place) }
+// Three numbers for a place or an operand: the kind, and what it has. The kinds 0 to 3 are the C interface's:
+// 0 a constant, 1 a variable, 2 a cell, 3 nothing.
+fn place_numbers(place: Place) -> [u32; 3]
+    ensures { result ≡ place_numbers place }
 {
     match place {
-        Place::Variable(v) => put_three(1, v as u32, 0, table, at),
-        Place::Cell(array, index) => put_three(2, array as u32, index as u32, table, at),
+        Place::Variable(v) => [1, u32::from(v), 0],
+        Place::Cell(array, index) => [2, u32::from(array), u32::from(index)],
     }
 }
 
-fn put_operand(operand: Operand, table: &mut [u32], at: usize)
-    requires { at + 3 ≤ length table.old }
-    ensures { table.new ≡ sets table.old at (operand_numbers operand) }
+fn operand_numbers(operand: Operand) -> [u32; 3]
+    ensures { result ≡ operand_numbers operand }
 {
     match operand {
-        Operand::Nothing => put_three(3, 0, 0, table, at),
-        Operand::Constant(constant) => put_three(0, constant, 0, table, at),
-        Operand::Held(place) => put_place(place, table, at),
+        Operand::Nothing => [3, 0, 0],
+        Operand::Constant(constant) => [0, constant, 0],
+        Operand::Held(place) => place_numbers(place),
     }
 }
 
-fn put_statement(statement: Statement, table: &mut [u32], at: usize) -> usize
-    requires { at + 10 ≤ length table.old }
-    ensures { (result ≡ at + 10) × (table.new ≡ sets table.old at (statement_numbers statement)) }
+// Ten numbers for a statement.
+fn statement_numbers(statement: Statement) -> [u32; 10]
+    ensures { result ≡ statement_numbers statement }
 {
-    let destination = statement.destination;
-    let left = statement.left;
-    let right = statement.right;
-    table[at] = statement.operation as u32;
-    put_place(destination, table, at + 1);
-    put_operand(left, table, at + 4);
-    put_operand(right, table, at + 7);
-    at + 10
-}
-
-fn put_lengths(block: Block, table: &mut [u32])
-    requires { 12 ≤ length table.old }
-    ensures { table.new ≡ sets table.old 4 block.lengths }
-{
-    let mut at: usize = 4;
-    let mut i: usize = 0;
-    while i < 8 {
-        table[at] = block.lengths[i] as u32;
-        at += 1;
-        i += 1;
-    }
+    let operation = u32::from(statement.operation);
+    let [d, e, f] = place_numbers(statement.destination);
+    let [l, m, n] = operand_numbers(statement.left);
+    let [r, s, t] = operand_numbers(statement.right);
+    [operation, d, e, f, l, m, n, r, s, t]
 }
 
 fn put_statements(block: Block, table: &mut [u32])
     requires { 652 ≤ length table.old }
     ensures { table.new ≡ sets table.old 12 (flat (map statement_numbers block.statements)) }
 {
-    let mut at: usize = 12;
-    let mut i: usize = 0;
-    while i < 64 {
-        let statement = block.statements[i];
-        at = put_statement(statement, table, at);
-        i += 1;
+    for (i, statement) in block.statements.iter().enumerate() {
+        let at = 12 + 10 * i;
+        table[at..at + 10].copy_from_slice(&statement_numbers(*statement));
     }
 }
 
@@ -82,10 +53,12 @@ pub fn put_block(block: Block, table: &mut [u32])
     requires { 652 ≤ length table.old }
     ensures { table.new ≡ sets table.old 0 (table_of block) }
 {
-    table[0] = block.variables as u32;
-    table[1] = block.live as u32;
-    table[2] = block.arrays as u32;
-    table[3] = block.count as u32;
-    put_lengths(block, table);
+    table[..4].copy_from_slice(&[
+        u32::from(block.variables),
+        u32::from(block.live),
+        u32::from(block.arrays),
+        u32::from(block.count),
+    ]);
+    table[4..12].copy_from_slice(&block.lengths.map(|n| u32::from(n)));
     put_statements(block, table);
 }

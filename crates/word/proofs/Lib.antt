@@ -1,3 +1,1 @@
-pub mod Product
 pub mod Past
-pub mod Difference

@@ -9,7 +9,7 @@ ghost use Rattle.meaning.specs.Machine.{operate as value_of};
 fn multiply(a: u32, b: u32) -> u32
     ensures { result ≡ a * b % 2 ^ 32 }
 {
-    let product = a as u64 * b as u64;
+    let product = u64::from(a) * u64::from(b);
     (product % 4294967296) as u32
 }
 
@@ -22,13 +22,14 @@ fn shift_right(a: u32, b: u32) -> u32
 }
 
 // The value of an operation; of a number that is none, 0.
+#[tactic(auto, using(crate::proofs::Past::past_operations), unfolding(meaning::specs::Machine::operate))]
 pub fn operate(operation: u8, a: u32, b: u32) -> u32
     ensures { result ≡ value_of operation a b }
 {
     match operation {
         0 => a,
-        1 => std::num::wrapping_add_u32(a, b),
-        2 => std::num::wrapping_sub_u32(a, b),
+        1 => a.wrapping_add(b),
+        2 => a.wrapping_sub(b),
         3 => multiply(a, b),
         4 => a & b,
         5 => a | b,

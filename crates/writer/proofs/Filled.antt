@@ -1,8 +1,8 @@
--- What the room holds afterwards: the bytes where it has as many, else what it held.
+-- What the room holds afterwards where it has as many bytes: these, and behind them what it held.
 use mathlib.Core.Path.{◌≡◌}
 use mathlib.Core.List.{List}
-use Prim.Native.Nat.{ℕ, ◌≤◌, ◌<◌}
-use borrow.Author.Tests.{le-leb, lt-leb}
+use Prim.Native.Nat.{ℕ, ◌≤◌}
+use borrow.Author.Tests.{le-leb}
 use lib.ListN.{length}
 use lib.Seq.{sets}
 use Rattle.basics.proofs.Stores.{sets_front}
@@ -18,9 +18,3 @@ module _ (bytes room : List ℕ) {size : ℕ} (counted : size ≡ length bytes) 
   filled fits stored =
       let enough : length bytes ≤ length room = rw counted at fits in
       rw (le-leb (length bytes) (length room) enough, stored, counted, sets_front room bytes enough)
-
-  pub too_small :
-      length room < size → ◌≡◌ {A = BlockWritten} (record { status = 7; size = size; room = room }) (block_written room (done bytes))
-  too_small short =
-      let lacking : length room < length bytes = rw counted at short in
-      rw (lt-leb (length bytes) (length room) lacking, counted)

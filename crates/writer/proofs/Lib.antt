@@ -1,5 +1,7 @@
 pub mod Refused
+pub mod Part
 pub mod Widths
 pub mod Run
 pub mod Whole
 pub mod Filled
+pub mod Alls

@@ -1,5 +1,8 @@
--- What the number of a refusal says of `write_block`: the block is refused with it, or its bytes are the answer and its counts fit.
-use mathlib.Core.Path.{◌≡◌, refl}
+-- What the number of a refusal says of `write_block`: the block is refused with it, or its bytes are the answer and its counts fit. And
+-- what that says of the call.
+use mathlib.Core.Path.{◌≡◌, refl, sym, ◌∙◌}
+use mathlib.Core.List.{List}
+use Rattle.std.specs.Prelude.{Err}
 use mathlib.Core.Bool.{Bool, true, false, ◌&&◌}
 use Prim.Native.Nat.{ℕ, ◌≤◌}
 use native.Mathlib.Omega.{arith}
@@ -12,7 +15,12 @@ use Rattle.meaning.specs.declared.Block.{Block as Slots}
 use Rattle.meaning.specs.Numbers.{Answer, refused, done, demand}
 use Rattle.meaning.specs.Block.{declared, declares_statement}
 use Rattle.meaning.specs.Format.{counts_fit, length_fits, well_formed, block_bytes, write_block}
+use Rattle.meaning.specs.Calls.{block_written, write_block_call}
+use Rattle.meaning.specs.declared.Refusal.{Refusal}
+use Rattle.meaning.specs.declared.Refusal.TheVariants.{Version, Length, Limits, Form, Undeclared, Sizes, Room, List as Listed, Rules}
+use Rattle.meaning.specs.Refusals.{number_of, needed_of}
 use Rattle.writer.specs.Refusal.{refusal_of}
+use Rattle.writer.specs.Written.{written}
 
 -- three tests one after the other, as a number and as an answer
 number : Bool → Bool → Bool → ℕ
@@ -48,6 +56,18 @@ limits variables live arrays statements e =
       leb-true statements 64 (and_right (front && leb arrays 8) (leb statements 64) e),
     )
 
+-- no refusal has the number of what is done
+never_0 : (refusal : Refusal) → number_of refusal ≡ 0 → ⊥
+never_0 Version e = omega arith
+never_0 Length e = omega arith
+never_0 Limits e = omega arith
+never_0 Form e = omega arith
+never_0 Undeclared e = omega arith
+never_0 Sizes e = omega arith
+never_0 (Room needed) e = omega arith
+never_0 Listed e = omega arith
+never_0 Rules e = omega arith
+
 module _ (b : Slots) where
   counts : Bool
   counts = counts_fit b.variables b.live b.arrays b.count
@@ -81,3 +101,13 @@ module _ (b : Slots) where
   pub few_statements : refusal_of b ≡ 0 → b.count ≤ 64
   unfolding counts
   few_statements e = (limits b.variables b.live b.arrays b.count (counts_pass e)).1
+
+  -- the call, where the block is refused and where it is not
+  pub refused_call : (room : List ℕ) (refusal : Refusal) → number_of refusal ≡ refusal_of b → needed_of refusal ≡ 0
+      → written (Err refusal) room ≡ write_block_call b room
+  unfolding write_block_call
+  refused_call room refusal judged none = rw (refused_with (λ e. never_0 refusal (judged ∙ e)), judged, none)
+
+  pub done_call : (room : List ℕ) → 0 ≡ refusal_of b → block_written room (done (block_bytes (declared b))) ≡ write_block_call b room
+  unfolding write_block_call
+  done_call room passed = rw (not_refused (sym passed))

@@ -11,18 +11,7 @@ pub fn all_declared(block: Block) -> bool
     requires { block.count ≤ 64 }
     ensures { result ≡ all (declares_statement block.variables (take block.arrays block.lengths)) (take block.count block.statements) }
 {
-    let variables = block.variables;
-    let arrays = block.arrays;
-    let lengths = block.lengths;
-    let count = block.count as usize;
-    let mut i = 0;
-    while i < count {
-        let statement = block.statements[i];
-        if reader::declares_statement(statement, variables, arrays, &lengths) {
-            i += 1;
-        } else {
-            return false;
-        }
-    }
-    true
+    block.statements[..usize::from(block.count)].iter().all(|statement| {
+        reader::declares_statement(*statement, block.variables, block.arrays, &block.lengths)
+    })
 }

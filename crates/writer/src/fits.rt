@@ -11,24 +11,14 @@ use meaning::Block;
 pub fn counts_fit(variables: u8, live: u8, arrays: u8, count: u8) -> bool
     ensures { result ≡ counts_fit variables live arrays count }
 {
-    if variables <= 32 {
-        if live <= variables {
-            if arrays <= 8 {
-                return count <= 64;
-            }
-        }
-    }
-    false
+    variables <= 32 && live <= variables && arrays <= 8 && count <= 64
 }
 
 // "arrays of 1 to 256 cells"
 fn length_fits(n: u16) -> bool
     ensures { result ≡ length_fits n }
 {
-    if 1 <= n {
-        return n <= 256;
-    }
-    false
+    (1..=256).contains(&n)
 }
 
 // Every declared length fits.
@@ -36,17 +26,9 @@ pub fn lengths_fit(block: Block) -> bool
     requires { block.arrays ≤ 8 }
     ensures { result ≡ all length_fits (take block.arrays block.lengths) }
 {
-    let arrays = block.arrays as usize;
-    let mut i = 0;
-    while i < arrays {
-        let n = block.lengths[i];
-        if length_fits(n) {
-            i += 1;
-        } else {
-            return false;
-        }
-    }
-    true
+    block.lengths[..usize::from(block.arrays)]
+        .iter()
+        .all(|n| length_fits(*n))
 }
 
 // Every declared statement is well formed.
@@ -54,15 +36,7 @@ pub fn all_well_formed(block: Block) -> bool
     requires { block.count ≤ 64 }
     ensures { result ≡ all well_formed (take block.count block.statements) }
 {
-    let count = block.count as usize;
-    let mut i = 0;
-    while i < count {
-        let statement = block.statements[i];
-        if reader::well_formed(statement) {
-            i += 1;
-        } else {
-            return false;
-        }
-    }
-    true
+    block.statements[..usize::from(block.count)]
+        .iter()
+        .all(|statement| reader::well_formed(*statement))
 }

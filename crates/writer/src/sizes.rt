@@ -8,16 +8,13 @@ use meaning::Block;
 
 // The whole block: seven bytes in front, two for each length, and the records with their counts.
 pub fn block_size(block: Block) -> usize
-    requires { (block.arrays ≤ 8) × (block.count ≤ 64) }
+    requires few_arrays { block.arrays ≤ 8 }
+    requires few_statements { block.count ≤ 64 }
     ensures { result ≡ length (block_bytes (declared block)) }
 {
-    let count = block.count as usize;
-    let mut size = 7 + 2 * block.arrays as usize;
-    let mut i = 0;
-    while i < count {
-        let statement = block.statements[i];
-        size = size + 1 + reader::statement_width(statement);
-        i += 1;
-    }
-    size
+    let records = block.statements[..usize::from(block.count)]
+        .iter()
+        .map(|statement| 1 + reader::statement_width(*statement))
+        .sum::<usize>();
+    7 + 2 * usize::from(block.arrays) + records
 }

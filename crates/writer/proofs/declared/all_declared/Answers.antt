@@ -1,28 +1,14 @@
--- `declared::all_declared` meets its contract: all statements name what is declared where those do that are still to be met.
-use mathlib.Core.Path.{◌≡◌, refl, sym, ◌∙◌}
-use native.Mathlib.Omega.{arith}
-use borrow.Author.Rules.{rules}
-use lib.ListN.{length, take}
-use Rattle.basics.proofs.Mapped.{unmapped}
-use Rattle.basics.proofs.Remaining.{all_still, all_fails, all_met}
-use Rattle.meaning.specs.Block.{blank, declares_statement}
+-- `declared::all_declared` meets its contract: all statements that are declared are tried.
+use Rattle.std.proofs.Common.{rules, tests, ◌∙◌, take}
+use Rattle.std.proofs.lemmas.Iterator.{YieldsList-from_slice}
+use Rattle.std.proofs.lemmas.Iterator.Search.{all_from_yields_List}
+use Rattle.meaning.specs.Block.{declares_statement}
+use Rattle.writer.proofs.Alls.{same_all}
 use Rattle.writer.proofs.declared.all_declared.Goals as goal
-
-pub loop-i-init : goal.loop-i-init
-loop-i-init c =
-    let long : length c.args.block.statements ≡ 64 = search (rules, unmapped) in
-    (omega arith, omega arith, refl)
-
-pub loop-i-preserved : goal.loop-i-preserved
-loop-i-preserved c =
-    let passes = sym c.declares_statement.ensures ∙ c.if-declares_statement.true in
-    (omega arith, omega arith, c.loop-i.invariant.2 ∙ all_still (declares_statement c.args.block.variables (take c.args.block.arrays c.args.block.lengths)) c.args.block.statements c.args.block.count c.loop-i.i blank (omega arith) (omega arith) passes)
-
-pub returns-else-declares_statement : goal.returns-else-declares_statement
-returns-else-declares_statement c =
-    let fails = sym c.declares_statement.ensures ∙ c.if-declares_statement.false in
-    sym (c.loop-i.invariant.2 ∙ all_fails (declares_statement c.args.block.variables (take c.args.block.arrays c.args.block.lengths)) c.args.block.statements c.args.block.count c.loop-i.i blank (omega arith) (omega arith) fails)
 
 pub returns : goal.returns
 returns c =
-    sym (c.loop-i.invariant.2 ∙ all_met (declares_statement c.args.block.variables (take c.args.block.arrays c.args.block.lengths)) c.args.block.statements c.args.block.count c.loop-i.i (omega arith))
+    let b = c.args.block in
+    let xs = take b.count b.statements in
+    all_from_yields_List (declares_statement b.variables (take b.arrays b.lengths)) _ _ c.all.result c.all.ensures.ran (YieldsList-from_slice xs (search rules)) (λ x t q k. search (rules, tests))
+    ∙ same_all (declares_statement b.variables (take b.arrays b.lengths)) xs

@@ -1,44 +1,35 @@
--- `sizes::block_size` meets its contract: what is counted and the bytes of the records still to be met are the whole.
-use mathlib.Core.Path.{◌≡◌, refl, ap}
+-- `sizes::block_size` meets its contract: the widths of the records are summed.
+use mathlib.Core.Path.{◌≡◌}
 use native.Mathlib.Omega.{arith}
 use borrow.Author.Rules.{rules}
-use lib.ListN.{length, get_or}
-use Rattle.basics.proofs.Mapped.{unmapped}
-use Rattle.meaning.specs.Block.{blank}
-use Rattle.meaning.specs.Format.{record_bytes}
-use Rattle.meaning.proofs.Bounds.{statement_width_lem}
-use Rattle.writer.proofs.Widths.{record_width}
-use Rattle.writer.proofs.Run.{rest_all, length_next, length_none}
-use Rattle.writer.proofs.Whole.{block_size}
+use lib.ListN.{length, take, length-take}
+use Rattle.std.specs.List.{sum_by}
+use Rattle.std.proofs.Common.{tests}
+use Rattle.std.proofs.lemmas.Iterator.{YieldsList-from_slice, YieldsList-from_map}
+use Rattle.std.proofs.lemmas.Iterator.Consumers.{fits_by_from_yields_list, sum_by_from_yields_List}
+use Rattle.writer.proofs.Whole.{width, widths, widths_few, block_size, records_of}
 use Rattle.writer.proofs.sizes.block_size.Goals as goal
 
-pub loop-i-init : goal.loop-i-init
-loop-i-init c =
-    let lengths : length c.args.block.lengths ≡ 8 = search rules in
-    let statements : length c.args.block.statements ≡ 64 = search (rules, unmapped) in
-    (omega arith, omega arith, omega arith, omega arith, refl)
+pub sum-records-requires-clause-fits : goal.sum-records-requires-clause-fits
+sum-records-requires-clause-fits c =
+    let ss = take c.from.result c.args.block.statements in
+    fits_by_from_yields_list width ss c.map.result _
+    (YieldsList-from_map _ width (YieldsList-from_slice ss (search rules)) c.map.ensures.closure (λ x r q k. search (rules, tests)))
+    (omega (arith, widths_few ss, length-take c.from.result c.args.block.statements))
 
-pub overflow_add-size-in-loop-i-2 : goal.overflow_add-size-in-loop-i-2
-overflow_add-size-in-loop-i-2 c =
-    omega (arith, statement_width_lem (get_or c.args.block.statements c.loop-i.i blank))
+summed : (c : goal.After-from-2) → c.sum-records.result ≡ sum_by width (take c.from.result c.args.block.statements)
+summed c =
+    let ss = take c.from.result c.args.block.statements in
+    sum_by_from_yields_List width ss c.map.result c.sum-records.result c.sum-records.ensures.ran
+    (YieldsList-from_map _ width (YieldsList-from_slice ss (search rules)) c.map.ensures.closure (λ x r q k. search (rules, tests)))
 
-pub loop-i-preserved : goal.loop-i-preserved
-loop-i-preserved c =
-    let s = get_or c.args.block.statements c.loop-i.i blank in
-    let less = length_next record_bytes c.args.block.statements c.args.block.count c.loop-i.i blank (omega arith) (omega arith) in (
-      omega arith,
-      omega arith,
-      omega arith,
-      omega (arith, statement_width_lem s),
-      omega (arith, record_width s, less),
-    )
+pub overflow_add-result-2 : goal.overflow_add-result-2
+overflow_add-result-2 c =
+    record { fits = omega (arith, summed c, widths_few (take c.from.result c.args.block.statements), length-take c.from.result c.args.block.statements) }
 
 pub returns : goal.returns
 returns c =
-    omega (
-      arith,
-      c.loop-i.invariant.4,
-      block_size c.args.block c.loop-i.invariant.1,
-      length_none record_bytes c.args.block.statements c.args.block.count c.loop-i.i (omega arith),
-      ap length (rest_all record_bytes c.args.block.statements c.args.block.count),
-    )
+    let b = c.args.block in
+    let eight : length b.lengths ≡ 8 = search rules in
+    let records : sum_by width (take c.from.result b.statements) ≡ length (records_of b) = rw c.from.ensures (widths (take b.count b.statements)) in
+    omega (arith, summed c, block_size b (omega arith))
