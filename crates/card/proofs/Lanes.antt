@@ -1,10 +1,10 @@
--- Laws of lanes: those that are not held, four of them worked on at once, and cells that stand in a row.
+-- Laws of lanes: four of them worked on at once, and cells that stand in a row.
 use mathlib.Core.Path.{◌≡◌, refl, ap, ◌∙◌}
 use mathlib.Core.List.{List, [], ◌∷◌, map}
 use Prim.Native.Nat.{ℕ, zero, suc, ◌+◌, ◌-◌, ◌≤◌, ◌<◌, min}
 use native.Mathlib.Numerals.{add-one}
 use native.Mathlib.Omega.{arith}
-use lib.ListN.{length, get_or, take, drop, set, length-take, get_or-eq_default}
+use lib.ListN.{length, get_or, take, drop, set, length-take}
 use lib.Seq.{drop-cons}
 use Rattle.basics.specs.Lists.{sum}
 use Rattle.basics.proofs.Parts.{spelled_whole}
@@ -13,10 +13,6 @@ use Rattle.meaning.specs.Machine.{operate, cell_at, fetch_place}
 use Rattle.meaning.specs.Card.{row, store_lanes, operate_lanes}
 use Rattle.memory.specs.Lent.{lent}
 use Rattle.card.specs.Registers.{row_fetched, row_stored}
-
--- a lane that is not held is 0
-pub not_held : (k : ℕ) (lanes : List ℕ) (i : ℕ) → min k (length lanes) ≤ i → get_or (take k lanes) i 0 ≡ 0
-not_held k lanes i h = get_or-eq_default (take k lanes) 0 (omega (arith, length-take k lanes))
 
 -- work on the first lanes is the first of the work on all
 first_lanes : (operation k : ℕ) (lanes others : List ℕ) → take k (operate_lanes operation lanes others) ≡ operate_lanes operation (take k lanes) others

@@ -8,11 +8,10 @@ use Rattle.meaning.specs.Card.{operate_lanes}
 use Rattle.memory.specs.Lent.{lent}
 use Rattle.card.specs.Registers.{row_fetched, row_stored}
 use Rattle.instructions.specs.declared.Instruction.{Instruction}
-use Rattle.instructions.specs.declared.Instruction.TheVariants.{Broken, S, L, C, G, Copy, O, W, D, X}
+use Rattle.instructions.specs.declared.Instruction.TheVariants.{S, L, C, G, Copy, O, W, D, X}
 
 -- "L, C, G and O each write a new register"
 abbrev pub writes : Instruction → Bool
-writes Broken = false
 writes (S s) = false
 writes (L r k a i) = true
 writes (C r k c₀ c₁ c₂ c₃) = true
@@ -25,7 +24,6 @@ writes (X r lane v) = false
 
 -- the lanes of the register that it writes: `first` and `second` are those that it reads
 unfoldable pub lanes_after : List ℕ → Contents → List ℕ → List ℕ → Instruction → List ℕ
-lanes_after lengths m first second Broken = []
 lanes_after lengths m first second (S s) = []
 lanes_after lengths m first second (L r k a i) = take k (row_fetched (cell_at lengths a i) m.cells)
 lanes_after lengths m first second (C r k c₀ c₁ c₂ c₃) = take k (c₀ ∷ c₁ ∷ c₂ ∷ c₃ ∷ [])
@@ -38,7 +36,6 @@ lanes_after lengths m first second (X r lane v) = []
 
 -- the contents afterwards
 unfoldable pub contents_after : List ℕ → Statement → List ℕ → Instruction → Contents → Contents
-contents_after lengths s first Broken m = m
 contents_after lengths s first (S number) m = run_statement lengths s m
 contents_after lengths s first (L r k a i) m = m
 contents_after lengths s first (C r k c₀ c₁ c₂ c₃) m = m

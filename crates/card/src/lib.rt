@@ -13,18 +13,11 @@ ghost use Rattle.card.specs.Step.{writes, lanes_after, contents_after};
 use instructions::{Instruction, Register};
 use meaning::{Operand, Place, Statement};
 
-fn wide(n: u8) -> usize
-    ensures { (result ≡ n) × (result < 256) }
-{
-    n as usize
-}
-
 pub fn no_register() -> Register
     ensures { result ≡ blank }
 {
-    let lanes = [0u32; 4];
     Register {
-        lanes,
+        lanes: [0; 4],
         count: 0,
         current: false,
     }
@@ -33,9 +26,8 @@ pub fn no_register() -> Register
 fn new_register(count: u8, v0: u32, v1: u32, v2: u32, v3: u32) -> Register
     ensures { result ≡ holding count v0 v1 v2 v3 }
 {
-    let lanes = [v0, v1, v2, v3];
     Register {
-        lanes,
+        lanes: [v0, v1, v2, v3],
         count,
         current: true,
     }
@@ -45,24 +37,18 @@ fn new_register(count: u8, v0: u32, v1: u32, v2: u32, v3: u32) -> Register
 fn lane_of(a: Register, lane: usize) -> u32
     ensures { result ≡ get_or (held a) lane 0 }
 {
-    if lane < wide(a.count) {
-        if lane < 4 {
-            return a.lanes[lane];
-        }
+    if lane < usize::from(a.count) {
+        slices::at_or(&a.lanes, lane, 0)
+    } else {
+        0
     }
-    0
 }
 
-// The cell that stands so many behind another, or 0.
+// The cell that stands so many behind another, or 0. A sum past the last index is past the cells too.
 fn behind(cells: &[u32], at: usize, j: usize) -> u32
     ensures { result ≡ get_or cells.now (at + j) 0 }
 {
-    if at < cells.len() {
-        if j < cells.len() - at {
-            return cells[at + j];
-        }
-    }
-    0
+    slices::at_or(cells, at.saturating_add(j), 0)
 }
 
 // "loads k cells in a row"
@@ -107,7 +93,8 @@ fn gather(
 
 // "works lane by lane"; a lane that the second register lacks is 0.
 fn work(operation: u8, a: Register, b: Register) -> Register
-    ensures { (result.current ≡ true) × (held result ≡ operate_lanes operation (held a) (held b)) }
+    ensures written { result.current ≡ true }
+    ensures worked { held result ≡ operate_lanes operation (held a) (held b) }
 {
     let lanes = a.lanes;
     let v0 = word::operate(operation, lanes[0], lane_of(b, 0));
@@ -121,11 +108,7 @@ fn work(operation: u8, a: Register, b: Register) -> Register
 fn put_behind(cells: &mut [u32], at: usize, j: usize, value: u32)
     ensures { cells.new ≡ set cells.old (at + j) value }
 {
-    if at < cells.len() {
-        if j < cells.len() - at {
-            cells[at + j] = value;
-        }
-    }
+    slices::put(cells, at.saturating_add(j), value);
 }
 
 // "stores k cells in a row"
@@ -133,14 +116,13 @@ fn store_row(k: u8, at: usize, a: Register, cells: &mut [u32])
     ensures { cells.new ≡ row_stored k at (held a) cells.old }
 {
     let n = run_block::at_most(k, run_block::at_most(a.count, 4));
-    let mut j: usize = 0;
-    while j < n {
+    for j in 0..n {
         put_behind(cells, at, j, lane_of(a, j));
-        j += 1;
     }
 }
 
 // One instruction: `s` is the statement that it names, `a` and `b` are the registers that it reads.
+#[tactic(auto, unfolding(crate::specs::Step::lanes_after, crate::specs::Step::contents_after))]
 pub fn step(
     i: Instruction,
     s: Statement,
@@ -156,67 +138,56 @@ pub fn step(
         ≡ contents_after lengths.now s (held a) i (lent variables.old cells.old)) }
 {
     match i {
-        Instruction::Broken => no_register(),
-        Instruction::S { number: _ } => {
+        Instruction::S { .. } => {
             memory::run_statement(s, lengths, variables, cells);
             no_register()
         }
         Instruction::L {
-            r: _,
             k,
             array,
             index,
+            ..
         } => load(k, array, index, lengths, cells),
         Instruction::C {
-            r: _,
             k,
             c0,
             c1,
             c2,
             c3,
+            ..
         } => new_register(k, c0, c1, c2, c3),
         Instruction::G {
-            r: _,
             k,
             o0,
             o1,
             o2,
             o3,
+            ..
         } => gather(k, o0, o1, o2, o3, lengths, variables, cells),
-        Instruction::Copy { r: _, k: _, ra: _ } => work(0, a, no_register()),
-        Instruction::O {
-            r: _,
-            operation,
-            k: _,
-            ra: _,
-            rb: _,
-        } => work(operation, a, b),
+        Instruction::Copy { .. } => work(0, a, no_register()),
+        Instruction::O { operation, .. } => work(operation, a, b),
         Instruction::W {
-            r: _,
             k,
             array,
             index,
+            ..
         } => {
             let at = memory::cell_at(lengths, array, index);
             store_row(k, at, a, cells);
             no_register()
         }
         Instruction::D {
-            r: _,
             lane,
             array,
             index,
+            ..
         } => {
-            let value = lane_of(a, wide(lane));
+            let value = lane_of(a, usize::from(lane));
             memory::store(Place::Cell(array, index), value, lengths, variables, cells);
             no_register()
         }
-        Instruction::X {
-            r: _,
-            lane,
-            variable,
-        } => {
-            let value = lane_of(a, wide(lane));
+        Instruction::X { lane, variable, .. } => {
+            let value = lane_of(a, usize::from(lane));
             memory::store(Place::Variable(variable), value, lengths, variables, cells);
             no_register()
         }

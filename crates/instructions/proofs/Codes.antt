@@ -3,8 +3,6 @@ use mathlib.Core.Path.{◌≡◌, ap}
 use mathlib.Core.Option.{Option, none}
 use mathlib.Core.List.{List, [], ◌∷◌}
 use Prim.Native.Nat.{ℕ, ◌≤◌}
-use Rattle.basics.proofs.Counting.{above}
-use native.Mathlib.Omega.{arith}
 use lib.ListN.{get_or, get_or-eq_default}
 use Rattle.meaning.specs.List.{Instruction, field, read_s, read_l, read_c, read_g, read_o, read_w, read_d, read_x, read_instruction}
 
@@ -16,10 +14,6 @@ readings bytes =
 pub by_code : (bytes : List ℕ) (code : ℕ) → code ≡ field 0 bytes → get_or (readings bytes) code none ≡ read_instruction bytes
 unfolding read_instruction
 by_code bytes code e = ap (λ (n : ℕ). get_or (readings bytes) n none) e
-
-pub eight_up :
-    (n : ℕ) → (n ≡ 0 → ⊥) → (n ≡ 1 → ⊥) → (n ≡ 2 → ⊥) → (n ≡ 3 → ⊥) → (n ≡ 4 → ⊥) → (n ≡ 5 → ⊥) → (n ≡ 6 → ⊥) → (n ≡ 7 → ⊥) → 8 ≤ n
-eight_up n n0 n1 n2 n3 n4 n5 n6 n7 = above (above (above (above (above (above (above (above (omega arith) n0) n1) n2) n3) n4) n5) n6) n7
 
 pub unknown_code : (bytes : List ℕ) (code : ℕ) → code ≡ field 0 bytes → 8 ≤ code → none ≡ read_instruction bytes
 unknown_code bytes code e h = rw (← by_code bytes code e, get_or-eq_default (readings bytes) none h)

@@ -1,30 +1,43 @@
 -- What G's record says, by what the code tests: its lanes, and whether its operands are all there and fill it.
-use mathlib.Core.Path.{◌≡◌}
-use mathlib.Core.Bool.{true, false}
-use mathlib.Core.Option.{none, some}
+use mathlib.Core.Path.{◌≡◌, refl, sym, ap, ◌∙◌}
+use mathlib.Core.Bool.{Bool, true, false, ◌&&◌, false≢true}
 use mathlib.Core.List.{List, [], ◌∷◌, map}
-use Prim.Native.Nat.{ℕ, ◌+◌}
+use Prim.Native.Nat.{ℕ, ◌+◌, ◌*◌, ◌≤◌}
 use lib.ListN.{length, drop}
 use lib.Seq.{drop-drop}
-use borrow.Author.Tests.{eq-eqb, ne_eqb}
+use native.Mathlib.Omega.{arith}
+use Rattle.std.specs.Bool.{IsTrue}
+use Rattle.std.specs.Prelude.{◌↔◌}
+use Rattle.std.specs.List.{AllPass, list_all, sum as total}
+use Rattle.std.proofs.lemmas.List.Sums.{AllPass-from_list_all, list_all-from_AllPass, sum_by-cons}
+use Rattle.meaning.proofs.Bounds.{operand_width_lem}
 use Rattle.basics.specs.Lists.{all, sum}
 use Rattle.meaning.specs.declared.Operand.{Operand}
-use Rattle.meaning.specs.Format.{operand_width, is_operand, read_operand}
-use Rattle.meaning.specs.List.{G, field, read_g}
+use Rattle.meaning.specs.Format.{operand_width, read_operand}
+use Rattle.meaning.specs.List.{field, read_g}
 use Rattle.instructions.specs.Meant.{gathered}
 
-pub two_operands : (o₀ o₁ : Operand) → is_operand o₀ ≡ true → is_operand o₁ ≡ true → all is_operand (o₀ ∷ o₁ ∷ []) ≡ true
-two_operands o₀ o₁ first second = rw (first, second)
+-- a test of all elements, from what the library says of it, and the library's sum
+all_listed : {A : Type 0} (test : A → Bool) (xs : List A) → list_all test xs ≡ all test xs
+all_listed test [] = refl
+all_listed test (x ∷ xs) = ap (λ (b : Bool). test x && b) (all_listed test xs)
 
-module _ (bytes : List ℕ) (os : List Operand) where
-  pub fills : all is_operand os ≡ true → length bytes ≡ 3 + sum (map operand_width os) → some (G (field 1 bytes) os) ≡ gathered bytes os
-  fills operands size = rw (operands, eq-eqb _ _ size)
+false_or : (b : Bool) → (b ≡ true → ⊥) → false ≡ b
+false_or true h = absurd (h refl)
+false_or false h = refl
 
-  pub lacks_operand : all is_operand os ≡ false → none ≡ gathered bytes os
-  lacks_operand operands = rw operands
+pub all_pass : {A : Type 0} (test : A → Bool) (xs : List A) (b : Bool) → (IsTrue b ↔ AllPass test xs) → b ≡ all test xs
+all_pass test xs true e = sym (sym (all_listed test xs) ∙ list_all-from_AllPass test xs (e.0 refl))
+all_pass test xs false e = false_or (all test xs) λ h. false≢true (e.1 (AllPass-from_list_all test xs (all_listed test xs ∙ h)))
 
-  pub wrong_size_lem : all is_operand os ≡ true → (length bytes ≡ 3 + sum (map operand_width os) → ⊥) → none ≡ gathered bytes os
-  wrong_size_lem operands size = rw (operands, ne_eqb _ _ size)
+pub sum_listed : (ns : List ℕ) → total ns ≡ sum ns
+sum_listed [] = refl
+sum_listed (n ∷ ns) = sum_by-cons (λ x. x) n ns ∙ ap (λ (m : ℕ). n + m) (sum_listed ns)
+
+-- an operand takes at most 5 bytes
+pub widths_few : (os : List Operand) → sum (map operand_width os) ≤ 5 * length os
+widths_few [] = omega arith
+widths_few (o ∷ os) = let first = operand_width_lem o in let rest = widths_few os in omega arith
 
 module _ (bytes : List ℕ) where
   pub two_lanes :
@@ -50,6 +63,3 @@ module _ (bytes : List ℕ) where
         drop-drop (operand_width o₂) (3 + operand_width o₀ + operand_width o₁) bytes,
         ← fourth,
       )
-
-  pub no_lanes : (field 2 bytes ≡ 2 → ⊥) → (field 2 bytes ≡ 4 → ⊥) → none ≡ read_g bytes
-  no_lanes two four = rw (ne_eqb _ _ two, ne_eqb _ _ four)

@@ -1,4 +1,3 @@
 pub mod Gathers
-pub mod Constants
 pub mod Codes
 pub mod Places

@@ -1,2 +1,3 @@
 pub mod Meant
 pub mod Next
+pub mod Rows

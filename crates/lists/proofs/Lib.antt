@@ -1,3 +1,3 @@
 pub mod Header
 pub mod Turns
-pub mod Status
+pub mod Checked

@@ -15,8 +15,9 @@ use Rattle.basics.proofs.Counting.{more, none_left}
 use Rattle.meaning.specs.Block.{Block}
 use Rattle.meaning.specs.List.{Instruction as Meaning, read_records, is_allowed, written_after, allowed}
 use Rattle.instructions.specs.declared.Instruction.{Instruction}
-use Rattle.instructions.specs.declared.Instruction.TheVariants.{Broken, S, L, C, G, Copy, O, W, D, X}
-use Rattle.instructions.specs.Meant.{meant}
+use Rattle.instructions.specs.declared.Instruction.TheVariants.{S, L, C, G, Copy, O, W, D, X}
+use Rattle.instructions.specs.Meant.{meant, read_meant}
+use Rattle.std.specs.Prelude.{Option as Maybe, Some, None, is_none}
 use Rattle.instructions.specs.Next.{instruction_at, end_at, behind}
 use Rattle.instructions.proofs.Places.{records_at, records_end}
 use Rattle.rules.specs.Rules.{one_allowed, afterward, registers_written, lanes_written, obeys_rules}
@@ -36,6 +37,14 @@ end_read : (test : Bool) → is_some (pick {A = Option (List Meaning)} test (som
 end_read true = refl
 end_read false = refl
 
+pub some_read : (o : Maybe Instruction) → is_none o ≡ false → is_some (read_meant o) ≡ true
+some_read None e = absurd (true≢false e)
+some_read (Some i) e = refl
+
+pub no_read : (o : Maybe Instruction) → is_none o ≡ true → is_some (read_meant o) ≡ false
+no_read None e = refl
+no_read (Some i) e = absurd (false≢true e)
+
 -- what is left of the records, at record i, which stands at a place of the bytes
 module _ (bytes : List ℕ) (count i start : ℕ) where
   remaining :
@@ -48,16 +57,16 @@ module _ (bytes : List ℕ) (count i start : ℕ) where
   all_met past = rw (none_left count i past) (records_end bytes start)
 
   pub read_more :
-      (r : Instruction) → i < count → meant r ≡ instruction_at bytes start → is_some (meant r) ≡ true
+      (read : Option Meaning) → i < count → read ≡ instruction_at bytes start → is_some read ≡ true
       → is_some (read_records (count - i) (drop start bytes)) ≡ is_some (read_records (count - (i + 1)) (drop (end_at bytes start) bytes))
-  read_more r low e read =
-      ap is_some (remaining low) ∙ one_read (instruction_at bytes start) (read_records (count - (i + 1)) (drop (end_at bytes start) bytes)) (ap is_some (sym e) ∙ read)
+  read_more read low e is =
+      ap is_some (remaining low) ∙ one_read (instruction_at bytes start) (read_records (count - (i + 1)) (drop (end_at bytes start) bytes)) (ap is_some (sym e) ∙ is)
 
   pub read_stop :
-      (r : Instruction) → i < count → meant r ≡ instruction_at bytes start → is_some (meant r) ≡ false
+      (read : Option Meaning) → i < count → read ≡ instruction_at bytes start → is_some read ≡ false
       → is_some (read_records (count - i) (drop start bytes)) ≡ false
-  read_stop r low e read =
-      ap is_some (remaining low) ∙ none_read (instruction_at bytes start) (read_records (count - (i + 1)) (drop (end_at bytes start) bytes)) (ap is_some (sym e) ∙ read)
+  read_stop read low e is =
+      ap is_some (remaining low) ∙ none_read (instruction_at bytes start) (read_records (count - (i + 1)) (drop (end_at bytes start) bytes)) (ap is_some (sym e) ∙ is)
 
   pub read_end : count ≤ i → is_some (read_records (count - i) (drop start bytes)) ≡ leb (length bytes) start
   read_end past = ap is_some (all_met past) ∙ end_read (leb (length bytes) start)
@@ -90,7 +99,6 @@ module _ (b : Block) (written : List ℕ) where
   end_allowed false = refl
 
 pub few : (i : Instruction) → registers_written i ≤ 1
-few Broken = omega arith
 few (S s) = omega arith
 few (L r k a i) = omega arith
 few (C r k c₀ c₁ c₂ c₃) = omega arith
@@ -109,11 +117,11 @@ grown l n (suc (suc r)) x below h = absurd (omega arith)
 
 module _ (bytes : List ℕ) (count i start : ℕ) (b : Block) (statements variables : ℕ) (lengths : List ℕ)
     (e₁ : length b.statements ≡ statements) (e₂ : b.variables ≡ variables) (e₃ : b.lengths ≡ lengths) where
-  judged : (w : List ℕ) (r : Instruction) → obeys_rules statements variables lengths w r ≡ one_allowed b w (meant r)
+  pub judged : (w : List ℕ) (r : Instruction) → obeys_rules statements variables lengths w r ≡ is_allowed b w (meant r)
   judged w r = rw (← e₁, ← e₂, ← e₃) (obeys_allowed b w r)
 
   pub allowed_more :
-      (l : List ℕ) (n : ℕ) (r : Instruction) → n < length l → i < count → meant r ≡ instruction_at bytes start
+      (l : List ℕ) (n : ℕ) (r : Instruction) → n < length l → i < count → some (meant r) ≡ instruction_at bytes start
       → obeys_rules statements variables lengths (take n l) r ≡ true
       → allowed_of b (take n l) (read_records (count - i) (drop start bytes))
       ≡ allowed_of b (take (n + registers_written r) (set l n (lanes_written r))) (read_records (count - (i + 1)) (drop (end_at bytes start) bytes))
@@ -124,14 +132,13 @@ module _ (bytes : List ℕ) (count i start : ℕ) (b : Block) (statements variab
       ∙ ap (λ (w : List ℕ). allowed_of b w rest)
       (ap (afterward (take n l)) (sym e) ∙ writes (take n l) r ∙ sym (grown l n (registers_written r) (lanes_written r) below (few r)))
 
-  pub allowed_stop :
-      (w : List ℕ) (r : Instruction) → i < count → meant r ≡ instruction_at bytes start
-      → obeys_rules statements variables lengths w r ≡ false
-      → allowed_of b w (read_records (count - i) (drop start bytes)) ≡ false
-  allowed_stop w r low e obeyed =
-      ap (allowed_of b w) (remaining bytes count i start low)
-      ∙ one_refused b w (instruction_at bytes start) (read_records (count - (i + 1)) (drop (end_at bytes start) bytes))
-      (ap (one_allowed b w) (sym e) ∙ sym (judged w r) ∙ obeyed)
+pub allowed_stop :
+    (bytes : List ℕ) (count i start : ℕ) (b : Block) (w : List ℕ) (read : Option Meaning) → i < count → read ≡ instruction_at bytes start
+    → one_allowed b w read ≡ false
+    → allowed_of b w (read_records (count - i) (drop start bytes)) ≡ false
+allowed_stop bytes count i start b w read low e refused =
+    ap (allowed_of b w) (remaining bytes count i start low)
+    ∙ one_refused b w (instruction_at bytes start) (read_records (count - (i + 1)) (drop (end_at bytes start) bytes)) (ap (one_allowed b w) (sym e) ∙ refused)
 
 pub allowed_end :
     (bytes : List ℕ) (count i start : ℕ) (b : Block) (w : List ℕ) → count ≤ i

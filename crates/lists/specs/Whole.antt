@@ -2,7 +2,7 @@
 use Rattle.std.specs.Prelude.{ℕ, Bool, true, false, ◌&&◌, List, [], eqb, leb, length, take, drop}
 use Rattle.std.proofs.Math.Option.{Option, none, some}
 use Rattle.meaning.specs.Block.{Block}
-use Rattle.meaning.specs.Numbers.{Answer, refused, done, demand, and_then}
+use Rattle.meaning.specs.Numbers.{Answer, done, demand, and_then}
 use Rattle.meaning.specs.List.{Instruction, field, read_list, allowed}
 use Rattle.meaning.specs.Format.{number}
 use Rattle.meaning.specs.Calls.{list_of}
@@ -21,11 +21,6 @@ abbrev pub allowed_of : Block → List ℕ → Option (List Instruction) → Boo
 allowed_of b written none = false
 allowed_of b written (some list) = allowed b written list
 
--- the number of a refusal, 0 where it is done
-abbrev pub status : {A : Type 0} → Answer A → ℕ
-status (refused number) = number
-status (done a) = 0
-
 -- "for a list, all of 8, then 9"
-unfoldable pub list_status : Block → List ℕ → ℕ
-list_status b bytes = status (and_then (list_of (read_list bytes)) λ list. demand (allowed b [] list) 9 (done list))
+unfoldable pub list_checked : Block → List ℕ → Answer (Unit {0})
+list_checked b bytes = and_then (list_of (read_list bytes)) λ list. demand (allowed b [] list) 9 (done tt)

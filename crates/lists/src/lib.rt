@@ -6,171 +6,95 @@
 ghost use Rattle.std.specs.Prelude.{◌≡◌, [], drop};
 ghost use Rattle.meaning.specs.Block.{declared};
 ghost use Rattle.meaning.specs.List.{read_records, read_list};
-ghost use Rattle.instructions.specs.Meant.{meant};
-ghost use Rattle.lists.specs.Whole.{is_some, header_fits, allowed_of, list_status};
+ghost use Rattle.meaning.specs.Refusals.{answered};
+ghost use Rattle.lists.specs.Whole.{is_some, header_fits, allowed_of, list_checked};
 
-use instructions::Instruction;
-use meaning::Block;
+use meaning::{Block, Refusal};
 
 // "under 4, version, length, over 160"
 fn header_fits(bytes: &[u8]) -> bool
     ensures { result ≡ header_fits bytes.now }
 {
-    if bytes.len() < 4 {
-        return false;
-    }
-    if bytes[0] != 1 {
-        return false;
-    }
-    let stated = reader::two(bytes[1], bytes[2]) as usize;
-    if stated != bytes.len() {
-        return false;
-    }
-    bytes[3] <= 160
-}
-
-fn is_read(instruction: Instruction) -> bool
-    ensures { result ≡ is_some (meant instruction) }
-{
-    match instruction {
-        Instruction::Broken => false,
-        Instruction::S { number: _ } => true,
-        Instruction::L {
-            r: _,
-            k: _,
-            array: _,
-            index: _,
-        } => true,
-        Instruction::C {
-            r: _,
-            k: _,
-            c0: _,
-            c1: _,
-            c2: _,
-            c3: _,
-        } => true,
-        Instruction::G {
-            r: _,
-            k: _,
-            o0: _,
-            o1: _,
-            o2: _,
-            o3: _,
-        } => true,
-        Instruction::Copy { r: _, k: _, ra: _ } => true,
-        Instruction::O {
-            r: _,
-            operation: _,
-            k: _,
-            ra: _,
-            rb: _,
-        } => true,
-        Instruction::W {
-            r: _,
-            k: _,
-            array: _,
-            index: _,
-        } => true,
-        Instruction::D {
-            r: _,
-            lane: _,
-            array: _,
-            index: _,
-        } => true,
-        Instruction::X {
-            r: _,
-            lane: _,
-            variable: _,
-        } => true,
-    }
+    bytes.len() >= 4
+        && bytes[0] == 1
+        && usize::from(u16::from_be_bytes([bytes[1], bytes[2]])) == bytes.len()
+        && bytes[3] <= 160
 }
 
 // So many records, and no byte behind them.
+#[tactic(auto, using(crate::proofs::Turns::read_more, crate::proofs::Turns::read_stop, crate::proofs::Turns::read_end, crate::proofs::Turns::some_read, crate::proofs::Turns::no_read))]
 fn records_read(bytes: &[u8], count: usize) -> bool
     ensures { result ≡ is_some (read_records count (drop 4 bytes.now)) }
 {
-    let mut start: usize = 4;
-    let mut i: usize = 0;
-    while i < count {
+    let mut start = 4;
+    for _record in 0..count {
         let next = instructions::next_instruction(bytes, start);
-        let instruction = next.instruction;
-        if is_read(instruction) {
-            start = next.end;
-            i += 1;
-        } else {
+        if next.instruction.is_none() {
             return false;
         }
+        start = next.end;
     }
     bytes.len() <= start
 }
 
 // All of 8, over the whole list.
+#[tactic(auto, using(crate::proofs::Header::header_read, crate::proofs::Header::header_broken))]
 pub fn is_list(bytes: &[u8]) -> bool
     ensures { result ≡ is_some (read_list bytes.now) }
 {
-    if header_fits(bytes) {
-        let count = reader::wide(instructions::field(bytes, 3));
-        return records_read(bytes, count);
-    }
-    false
+    header_fits(bytes) && records_read(bytes, usize::from(bytes[3]))
 }
 
 // The records, each against the rules. `written` has the lanes of each register so far; no list that is
 // allowed writes more than 96.
+#[tactic(auto, using(crate::proofs::Turns::allowed_stop, crate::proofs::Turns::allowed_end))]
 fn records_allowed(bytes: &[u8], count: usize, block: Block) -> bool
     ensures { result ≡ allowed_of (declared block) [] (read_records count (drop 4 bytes.now)) }
 {
     let statements = run_block::at_most(block.count, 64);
-    let variables = block.variables;
-    let arrays = block.arrays;
-    let lengths = block.lengths;
     let mut written = [0u8; 97];
-    let mut n: usize = 0;
-    let mut start: usize = 4;
-    let mut i: usize = 0;
-    while i < count {
+    let mut n = 0;
+    let mut start = 4;
+    for _record in 0..count {
         let next = instructions::next_instruction(bytes, start);
-        let instruction = next.instruction;
-        if rules::obeys(
+        let Some(instruction) = next.instruction else {
+            return false;
+        };
+        if !rules::obeys(
             instruction,
             &written[..n],
             statements,
-            variables,
-            arrays,
-            &lengths,
+            block.variables,
+            block.arrays,
+            &block.lengths,
         ) {
-            written[n] = rules::lanes_written(instruction);
-            n += rules::registers_written(instruction);
-            start = next.end;
-            i += 1;
-        } else {
             return false;
         }
+        written[n] = rules::lanes_written(instruction);
+        n += rules::registers_written(instruction);
+        start = next.end;
     }
-    let behind = bytes.len();
-    behind <= start
+    start >= bytes.len()
 }
 
 // 9, for a list that reads.
+#[tactic(auto, using(crate::proofs::Header::header_read, crate::proofs::Header::header_broken))]
 pub fn is_allowed(bytes: &[u8], block: Block) -> bool
     ensures { result ≡ allowed_of (declared block) [] (read_list bytes.now) }
 {
-    if header_fits(bytes) {
-        let count = reader::wide(instructions::field(bytes, 3));
-        return records_allowed(bytes, count, block);
-    }
-    false
+    header_fits(bytes) && records_allowed(bytes, usize::from(bytes[3]), block)
 }
 
 // "for a list, all of 8, then 9"
-pub fn list_status(bytes: &[u8], block: Block) -> u8
-    ensures { result ≡ list_status (declared block) bytes.now }
+#[tactic(auto, using(crate::proofs::Checked::unread, crate::proofs::Checked::forbidden, crate::proofs::Checked::passed))]
+pub fn check_list(bytes: &[u8], block: Block) -> Result<(), Refusal>
+    ensures { answered result ≡ list_checked (declared block) bytes.now }
 {
-    if is_list(bytes) {
-        if is_allowed(bytes, block) {
-            return 0;
-        }
-        return 9;
+    if !is_list(bytes) {
+        return Err(Refusal::List);
     }
-    8
+    if !is_allowed(bytes, block) {
+        return Err(Refusal::Rules);
+    }
+    Ok(())
 }

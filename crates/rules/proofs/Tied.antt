@@ -10,18 +10,17 @@ use borrow.Author.Tests.{eqb-true, ltb-true}
 use Rattle.basics.proofs.Tests.{and_left, and_right}
 use Rattle.meaning.specs.declared.Statement.{Statement}
 use Rattle.meaning.specs.Block.{Block}
-use Rattle.meaning.specs.List.{is_next, is_written}
+use Rattle.meaning.specs.List.{is_next, is_written, is_allowed, written_after, instruction_price}
 use Rattle.instructions.specs.declared.Instruction.{Instruction}
-use Rattle.instructions.specs.declared.Instruction.TheVariants.{Broken, S, L, C, G, Copy, O, W, D, X}
+use Rattle.instructions.specs.declared.Instruction.TheVariants.{S, L, C, G, Copy, O, W, D, X}
 use Rattle.instructions.specs.Meant.{meant}
-use Rattle.rules.specs.Rules.{one_allowed, afterward, slots_declared, obeys_rules, registers_written, lanes_written}
-use Rattle.rules.specs.Price.{price_of, named, price_meant}
+use Rattle.rules.specs.Rules.{slots_declared, obeys_rules, registers_written, lanes_written}
+use Rattle.rules.specs.Price.{price_of, named}
 use Rattle.rules.proofs.Slots.{slots_all, slots_held, slots_price}
 
 pub obeys_allowed :
     (b : Block) (written : List ℕ) (i : Instruction)
-    → obeys_rules (length b.statements) b.variables b.lengths written i ≡ one_allowed b written (meant i)
-obeys_allowed b written Broken = refl
+    → obeys_rules (length b.statements) b.variables b.lengths written i ≡ is_allowed b written (meant i)
 obeys_allowed b written (S s) = refl
 obeys_allowed b written (L r k a i) = refl
 obeys_allowed b written (C r k c₀ c₁ c₂ c₃) = refl
@@ -32,8 +31,7 @@ obeys_allowed b written (W r k a i) = refl
 obeys_allowed b written (D r lane a i) = refl
 obeys_allowed b written (X r lane v) = refl
 
-pub writes : (written : List ℕ) (i : Instruction) → afterward written (meant i) ≡ written ++ take (registers_written i) (lanes_written i ∷ [])
-writes written Broken = sym (append-nil written)
+pub writes : (written : List ℕ) (i : Instruction) → written_after written (meant i) ≡ written ++ take (registers_written i) (lanes_written i ∷ [])
 writes written (S s) = sym (append-nil written)
 writes written (L r k a i) = refl
 writes written (C r k c₀ c₁ c₂ c₃) = rw slots_held
@@ -60,7 +58,6 @@ next_alone written r next =
 
 module _ (statements variables : ℕ) (lengths written : List ℕ) (h : length written ≤ 96) where
   pub room : (i : Instruction) → obeys_rules statements variables lengths written i ≡ true → length written + registers_written i ≤ 96
-  room Broken e = omega arith
   room (S s) e = omega arith
   room (L r k a i) e = next_room written r _ e
   room (C r k c₀ c₁ c₂ c₃) e = next_alone written r e
@@ -73,8 +70,7 @@ module _ (statements variables : ℕ) (lengths written : List ℕ) (h : length w
   room (X r lane v) e = omega arith
 
 -- the price, where the statement is the one that S names
-pub price_meant_lem : (ss : List Statement) (i : Instruction) → price_of i (named ss i) ≡ price_meant ss (meant i)
-price_meant_lem ss Broken = refl
+pub price_meant_lem : (ss : List Statement) (i : Instruction) → price_of i (named ss i) ≡ instruction_price ss (meant i)
 price_meant_lem ss (S s) = refl
 price_meant_lem ss (L r k a i) = refl
 price_meant_lem ss (C r k c₀ c₁ c₂ c₃) = refl

@@ -7,7 +7,7 @@ use Rattle.meaning.specs.declared.Statement.{Statement}
 use Rattle.meaning.specs.Block.{statement, blank, statement_price, cell_operand}
 use Rattle.meaning.specs.List.{Instruction as Meaning, instruction_price}
 use Rattle.instructions.specs.declared.Instruction.{Instruction}
-use Rattle.instructions.specs.declared.Instruction.TheVariants.{Broken, S, L, C, G, Copy, O, W, D, X}
+use Rattle.instructions.specs.declared.Instruction.TheVariants.{S, L, C, G, Copy, O, W, D, X}
 
 -- a slot past the lanes costs nothing
 abbrev pub slot_price : ℕ → ℕ → Operand → ℕ
@@ -18,7 +18,6 @@ abbrev pub gather_price : ℕ → Operand → Operand → Operand → Operand �
 gather_price k o₀ o₁ o₂ o₃ = min k 4 + ((slot_price k 0 o₀ + slot_price k 1 o₁) + (slot_price k 2 o₂ + slot_price k 3 o₃))
 
 abbrev pub price_of : Instruction → Statement → ℕ
-price_of Broken s = 0
 price_of (S number) s = statement_price s
 price_of (L r k a i) s = 1
 price_of (C r k c₀ c₁ c₂ c₃) s = 1
@@ -36,7 +35,6 @@ price_meant ss (some instruction) = instruction_price ss instruction
 
 -- the statement that S names
 abbrev pub named : List Statement → Instruction → Statement
-named ss Broken = blank
 named ss (S number) = statement ss number
 named ss (L r k a i) = blank
 named ss (C r k c₀ c₁ c₂ c₃) = blank

@@ -6,7 +6,7 @@ use Rattle.meaning.specs.declared.Place.TheVariants.{Variable, Cell}
 use Rattle.meaning.specs.Block.{Block, declares_place, declares_operand}
 use Rattle.meaning.specs.List.{Instruction as Meaning, is_next, is_written, has_lane, is_allowed, written_after}
 use Rattle.instructions.specs.declared.Instruction.{Instruction}
-use Rattle.instructions.specs.declared.Instruction.TheVariants.{Broken, S, L, C, G, Copy, O, W, D, X}
+use Rattle.instructions.specs.declared.Instruction.TheVariants.{S, L, C, G, Copy, O, W, D, X}
 
 -- 9, for an instruction that was read
 abbrev pub one_allowed : Block → List ℕ → Option Meaning → Bool
@@ -31,7 +31,6 @@ slots_declared variables lengths k slot o o' = slot_declared variables lengths k
 
 -- the rules, by how many statements the block has, its variables and its array lengths
 abbrev pub obeys_rules : ℕ → ℕ → List ℕ → List ℕ → Instruction → Bool
-obeys_rules statements variables lengths written Broken = false
 obeys_rules statements variables lengths written (S s) = ltb s statements
 obeys_rules statements variables lengths written (L r k a i) = is_next written r && row_declared lengths k a i
 obeys_rules statements variables lengths written (C r k c₀ c₁ c₂ c₃) = is_next written r
@@ -45,7 +44,6 @@ obeys_rules statements variables lengths written (X r lane v) = has_lane written
 
 -- "L, C, G and O each write a new register": how many an instruction writes, and with how many lanes
 abbrev pub registers_written : Instruction → ℕ
-registers_written Broken = 0
 registers_written (S s) = 0
 registers_written (L r k a i) = 1
 registers_written (C r k c₀ c₁ c₂ c₃) = 1
@@ -57,7 +55,6 @@ registers_written (D r lane a i) = 0
 registers_written (X r lane v) = 0
 
 abbrev pub lanes_written : Instruction → ℕ
-lanes_written Broken = 0
 lanes_written (S s) = 0
 lanes_written (L r k a i) = k
 lanes_written (C r k c₀ c₁ c₂ c₃) = min k 4

@@ -16,56 +16,38 @@ use meaning::{Operand, Place, Statement};
 fn is_next(written: &[u8], r: u8) -> bool
     ensures { result ≡ is_next written.now r }
 {
-    if reader::wide(r) == written.len() {
-        return r < 96;
-    }
-    false
+    usize::from(r) == written.len() && r < 96
 }
 
 // "A register that is read must be already written, with the same k"
 fn is_written(written: &[u8], r: u8, k: u8) -> bool
     ensures { result ≡ is_written written.now r k }
 {
-    let i = reader::wide(r);
-    if i < written.len() {
-        return written[i] == k;
-    }
-    false
+    let i = usize::from(r);
+    i < written.len() && written[i] == k
 }
 
 // "a lane must be below its k"
 fn has_lane(written: &[u8], r: u8, lane: u8) -> bool
     ensures { result ≡ has_lane written.now r lane }
 {
-    let i = reader::wide(r);
-    if i < written.len() {
-        return lane < written[i];
-    }
-    false
+    let i = usize::from(r);
+    i < written.len() && lane < written[i]
 }
 
 // A row of cells never runs on into the next array.
 fn declares_row(array: u8, index: u8, k: u8, arrays: u8, lengths: &[u16]) -> bool
     ensures { result ≡ row_declared (take arrays lengths.now) k array index }
 {
-    if array < arrays {
-        let i = reader::wide(array);
-        if i < lengths.len() {
-            let size = lengths[i];
-            return index as u16 + k as u16 <= size;
-        }
-    }
-    false
+    let i = usize::from(array);
+    array < arrays && i < lengths.len() && u16::from(index) + u16::from(k) <= lengths[i]
 }
 
 // An operand in a slot past the lanes is not asked.
 fn declares_slot(o: Operand, slot: u8, k: u8, variables: u8, arrays: u8, lengths: &[u16; 8]) -> bool
     ensures { result ≡ slot_declared variables (take arrays lengths.now) k slot o }
 {
-    if k <= slot {
-        return true;
-    }
-    reader::declares_operand(o, variables, arrays, lengths)
+    k <= slot || reader::declares_operand(o, variables, arrays, lengths)
 }
 
 fn declares_two(
@@ -80,10 +62,8 @@ fn declares_two(
     requires { slot ≤ 2 }
     ensures { result ≡ slots_declared variables (take arrays lengths.now) k slot o0 o1 }
 {
-    if declares_slot(o0, slot, k, variables, arrays, lengths) {
-        return declares_slot(o1, slot + 1, k, variables, arrays, lengths);
-    }
-    false
+    declares_slot(o0, slot, k, variables, arrays, lengths)
+        && declares_slot(o1, slot + 1, k, variables, arrays, lengths)
 }
 
 // "names a statement, place, lane or register against the rules"
@@ -98,22 +78,11 @@ pub fn obeys(
     ensures { result ≡ obeys_rules statements variables (take arrays lengths.now) written.now instruction }
 {
     match instruction {
-        Instruction::Broken => false,
-        Instruction::S { number } => reader::wide(number) < statements,
+        Instruction::S { number } => usize::from(number) < statements,
         Instruction::L { r, k, array, index } => {
-            if is_next(written, r) {
-                return declares_row(array, index, k, arrays, lengths);
-            }
-            false
+            is_next(written, r) && declares_row(array, index, k, arrays, lengths)
         }
-        Instruction::C {
-            r,
-            k: _,
-            c0: _,
-            c1: _,
-            c2: _,
-            c3: _,
-        } => is_next(written, r),
+        Instruction::C { r, .. } => is_next(written, r),
         Instruction::G {
             r,
             k,
@@ -122,38 +91,16 @@ pub fn obeys(
             o2,
             o3,
         } => {
-            if is_next(written, r) {
-                if declares_two(o0, o1, 0, k, variables, arrays, lengths) {
-                    return declares_two(o2, o3, 2, k, variables, arrays, lengths);
-                }
-            }
-            false
+            is_next(written, r)
+                && declares_two(o0, o1, 0, k, variables, arrays, lengths)
+                && declares_two(o2, o3, 2, k, variables, arrays, lengths)
         }
-        Instruction::Copy { r, k, ra } => {
-            if is_next(written, r) {
-                return is_written(written, ra, k);
-            }
-            false
-        }
-        Instruction::O {
-            r,
-            operation: _,
-            k,
-            ra,
-            rb,
-        } => {
-            if is_next(written, r) {
-                if is_written(written, ra, k) {
-                    return is_written(written, rb, k);
-                }
-            }
-            false
+        Instruction::Copy { r, k, ra } => is_next(written, r) && is_written(written, ra, k),
+        Instruction::O { r, k, ra, rb, .. } => {
+            is_next(written, r) && is_written(written, ra, k) && is_written(written, rb, k)
         }
         Instruction::W { r, k, array, index } => {
-            if is_written(written, r, k) {
-                return declares_row(array, index, k, arrays, lengths);
-            }
-            false
+            is_written(written, r, k) && declares_row(array, index, k, arrays, lengths)
         }
         Instruction::D {
             r,
@@ -161,26 +108,12 @@ pub fn obeys(
             array,
             index,
         } => {
-            if has_lane(written, r, lane) {
-                return reader::declares_place(
-                    Place::Cell(array, index),
-                    variables,
-                    arrays,
-                    lengths,
-                );
-            }
-            false
+            has_lane(written, r, lane)
+                && reader::declares_place(Place::Cell(array, index), variables, arrays, lengths)
         }
         Instruction::X { r, lane, variable } => {
-            if has_lane(written, r, lane) {
-                return reader::declares_place(
-                    Place::Variable(variable),
-                    variables,
-                    arrays,
-                    lengths,
-                );
-            }
-            false
+            has_lane(written, r, lane)
+                && reader::declares_place(Place::Variable(variable), variables, arrays, lengths)
         }
     }
 }
@@ -191,7 +124,7 @@ pub fn obeys(
 fn held(k: u8) -> u8
     ensures { result ≡ min k 4 }
 {
-    if k < 4 { k } else { 4 }
+    k.min(4)
 }
 
 // "L, C, G and O each write a new register": how many, and with how many lanes.
@@ -199,55 +132,12 @@ pub fn registers_written(instruction: Instruction) -> usize
     ensures { result ≡ registers_written instruction }
 {
     match instruction {
-        Instruction::Broken => 0,
-        Instruction::S { number: _ } => 0,
-        Instruction::L {
-            r: _,
-            k: _,
-            array: _,
-            index: _,
-        } => 1,
-        Instruction::C {
-            r: _,
-            k: _,
-            c0: _,
-            c1: _,
-            c2: _,
-            c3: _,
-        } => 1,
-        Instruction::G {
-            r: _,
-            k: _,
-            o0: _,
-            o1: _,
-            o2: _,
-            o3: _,
-        } => 1,
-        Instruction::Copy { r: _, k: _, ra: _ } => 1,
-        Instruction::O {
-            r: _,
-            operation: _,
-            k: _,
-            ra: _,
-            rb: _,
-        } => 1,
-        Instruction::W {
-            r: _,
-            k: _,
-            array: _,
-            index: _,
-        } => 0,
-        Instruction::D {
-            r: _,
-            lane: _,
-            array: _,
-            index: _,
-        } => 0,
-        Instruction::X {
-            r: _,
-            lane: _,
-            variable: _,
-        } => 0,
+        Instruction::L { .. }
+        | Instruction::C { .. }
+        | Instruction::G { .. }
+        | Instruction::Copy { .. }
+        | Instruction::O { .. } => 1,
+        _ => 0,
     }
 }
 
@@ -255,55 +145,9 @@ pub fn lanes_written(instruction: Instruction) -> u8
     ensures { result ≡ lanes_written instruction }
 {
     match instruction {
-        Instruction::Broken => 0,
-        Instruction::S { number: _ } => 0,
-        Instruction::L {
-            r: _,
-            k,
-            array: _,
-            index: _,
-        } => k,
-        Instruction::C {
-            r: _,
-            k,
-            c0: _,
-            c1: _,
-            c2: _,
-            c3: _,
-        } => held(k),
-        Instruction::G {
-            r: _,
-            k,
-            o0: _,
-            o1: _,
-            o2: _,
-            o3: _,
-        } => held(k),
-        Instruction::Copy { r: _, k, ra: _ } => k,
-        Instruction::O {
-            r: _,
-            operation: _,
-            k,
-            ra: _,
-            rb: _,
-        } => k,
-        Instruction::W {
-            r: _,
-            k: _,
-            array: _,
-            index: _,
-        } => 0,
-        Instruction::D {
-            r: _,
-            lane: _,
-            array: _,
-            index: _,
-        } => 0,
-        Instruction::X {
-            r: _,
-            lane: _,
-            variable: _,
-        } => 0,
+        Instruction::L { k, .. } | Instruction::Copy { k, .. } | Instruction::O { k, .. } => k,
+        Instruction::C { k, .. } | Instruction::G { k, .. } => held(k),
+        _ => 0,
     }
 }
 
@@ -311,19 +155,22 @@ pub fn lanes_written(instruction: Instruction) -> u8
 
 // A slot past the lanes costs nothing.
 fn slot_price(o: Operand, slot: u8, k: u8) -> usize
-    ensures { (result ≡ slot_price k slot o) × (result ≤ 1) }
+    ensures exact { result ≡ slot_price k slot o }
+    ensures one_at_most { result ≤ 1 }
 {
     if k <= slot {
-        return 0;
+        0
+    } else {
+        run_block::cell_operand(o)
     }
-    run_block::cell_operand(o)
 }
 
 // "k + cell lanes"
 fn gather_price(k: u8, o0: Operand, o1: Operand, o2: Operand, o3: Operand) -> usize
-    ensures { (result ≡ gather_price k o0 o1 o2 o3) × (result ≤ 8) }
+    ensures exact { result ≡ gather_price k o0 o1 o2 o3 }
+    ensures eight_at_most { result ≤ 8 }
 {
-    let lanes = reader::wide(held(k));
+    let lanes = usize::from(held(k));
     let first = slot_price(o0, 0, k) + slot_price(o1, 1, k);
     let second = slot_price(o2, 2, k) + slot_price(o3, 3, k);
     lanes + (first + second)
@@ -334,54 +181,16 @@ pub fn instruction_price(instruction: Instruction, statement: Statement) -> usiz
     ensures { (result ≡ price_of instruction statement) × (result ≤ 8) }
 {
     match instruction {
-        Instruction::Broken => 0,
-        Instruction::S { number: _ } => run_block::statement_price(statement),
-        Instruction::L {
-            r: _,
-            k: _,
-            array: _,
-            index: _,
-        } => 1,
-        Instruction::C {
-            r: _,
-            k: _,
-            c0: _,
-            c1: _,
-            c2: _,
-            c3: _,
-        } => 1,
+        Instruction::S { .. } => run_block::statement_price(statement),
         Instruction::G {
-            r: _,
             k,
             o0,
             o1,
             o2,
             o3,
+            ..
         } => gather_price(k, o0, o1, o2, o3),
-        Instruction::Copy { r: _, k: _, ra: _ } => 1,
-        Instruction::O {
-            r: _,
-            operation: _,
-            k: _,
-            ra: _,
-            rb: _,
-        } => 1,
-        Instruction::W {
-            r: _,
-            k: _,
-            array: _,
-            index: _,
-        } => 1,
-        Instruction::D {
-            r: _,
-            lane: _,
-            array: _,
-            index: _,
-        } => 2,
-        Instruction::X {
-            r: _,
-            lane: _,
-            variable: _,
-        } => 1,
+        Instruction::D { .. } => 2,
+        _ => 1,
     }
 }

@@ -45,10 +45,6 @@ stored registers n w test lanes below e h =
 
 -- a 97th register is not allowed
 module _ (b : Block) (registers : List Register) (n : ℕ) (small : n ≤ 96) (sized : length registers ≡ 97) where
-  abbrev Small : Instruction → Option Meaning → Type 0
-  Small i none = n + pick (writes i) 1 0 ≤ 96
-  Small i (some j) = is_allowed b (counts_of registers n) j ≡ true → n + pick (writes i) 1 0 ≤ 96
-
   next_small : (r : ℕ) → is_next (counts_of registers n) r ≡ true → n + 1 ≤ 96
   next_small r e =
       omega (
@@ -58,20 +54,16 @@ module _ (b : Block) (registers : List Register) (n : ℕ) (small : n ≤ 96) (s
         length_counts registers n (omega arith),
       )
 
-  smalls : (i : Instruction) → Small i (meant i)
-  smalls Slots.Broken = omega arith
-  smalls (Slots.S s) = λ ok. omega arith
-  smalls (Slots.L r k a i) = λ ok. next_small r (and_left _ _ ok)
-  smalls (Slots.C r k c₀ c₁ c₂ c₃) = λ ok. next_small r ok
-  smalls (Slots.G r k o₀ o₁ o₂ o₃) = λ ok. next_small r (and_left _ _ ok)
-  smalls (Slots.Copy r k ra) = λ ok. next_small r (and_left _ _ (and_left _ _ ok))
-  smalls (Slots.O r operation k ra rb) = λ ok. next_small r (and_left _ _ (and_left _ _ ok))
-  smalls (Slots.W r k a i) = λ ok. omega arith
-  smalls (Slots.D r lane a i) = λ ok. omega arith
-  smalls (Slots.X r lane v) = λ ok. omega arith
-
-  pub stays_small : (i : Instruction) (j : Meaning) → meant i ≡ some j → is_allowed b (counts_of registers n) j ≡ true → n + pick (writes i) 1 0 ≤ 96
-  stays_small i j e = subst (Small i) e (smalls i)
+  pub stays_small : (i : Instruction) → is_allowed b (counts_of registers n) (meant i) ≡ true → n + pick (writes i) 1 0 ≤ 96
+  stays_small (Slots.S s) = λ ok. omega arith
+  stays_small (Slots.L r k a i) = λ ok. next_small r (and_left _ _ ok)
+  stays_small (Slots.C r k c₀ c₁ c₂ c₃) = λ ok. next_small r ok
+  stays_small (Slots.G r k o₀ o₁ o₂ o₃) = λ ok. next_small r (and_left _ _ ok)
+  stays_small (Slots.Copy r k ra) = λ ok. next_small r (and_left _ _ (and_left _ _ ok))
+  stays_small (Slots.O r operation k ra rb) = λ ok. next_small r (and_left _ _ (and_left _ _ ok))
+  stays_small (Slots.W r k a i) = λ ok. omega arith
+  stays_small (Slots.D r lane a i) = λ ok. omega arith
+  stays_small (Slots.X r lane v) = λ ok. omega arith
 
 -- how many lanes the registers have afterwards
 one_more : (registers : List (List ℕ)) (lanes : List ℕ) (k : ℕ) → length lanes ≡ k → map length registers ++ k ∷ [] ≡ map length (registers ++ lanes ∷ [])
@@ -116,13 +108,8 @@ module _ (b : Block) (written : List ℕ) (j : Meaning) where
   one_left c (some list) e = refl
 
 -- what is left begins with an instruction
-pub record Read (x : Option Meaning) : Type 0 where
-  pub instruction : Meaning
-  pub is : x ≡ some instruction
-
-pub is_read : (b : Block) (written : List ℕ) (x : Option Meaning) (rest : Option (List Meaning)) → allowed_of b written (behind x rest) ≡ true → Read x
-is_read b written none rest e = absurd (false≢true e)
-is_read b written (some j) rest e = record { instruction = j; is = refl }
+pub no_broken : (b : Block) (written : List ℕ) (x : Option Meaning) (rest : Option (List Meaning)) → allowed_of b written (behind x rest) ≡ true → none ≡ x → ⊥
+no_broken b written x rest ok e = false≢true (subst (λ (read : Option Meaning). allowed_of b written (behind read rest) ≡ true) (sym e) ok)
 
 -- no record is left
 pub none_left : (b : Block) (written : List ℕ) (price : ℕ) (c : Card) (bytes : List ℕ) → allowed_of b written (read_records 0 bytes) ≡ true

@@ -25,12 +25,12 @@ use Rattle.lists.specs.Whole.{allowed_of}
 use Rattle.run_list.specs.Runs.{statement_of, first_of, second_of, register_at, statement_at, card_of, counts_of, paid, left}
 use Rattle.run_list.proofs.Turns.{turn, priced}
 use Rattle.run_list.proofs.Loads.{load_fits}
-use Rattle.run_list.proofs.After.{stored, stays_small, counted, one_allowed_lem, rest_allowed, one_paid, one_left, Read, is_read}
+use Rattle.run_list.proofs.After.{stored, stays_small, counted, one_allowed_lem, rest_allowed, one_paid, one_left}
 
 module _ (b : Block) (slots : List Statement) (count : ℕ) (are : b.statements ≡ take count slots) (room : length slots ≡ 64)
     (registers : List Register) (n : ℕ) (small : n ≤ 96) (sized : length registers ≡ 97) (variables cells : List ℕ)
     (bytes : List ℕ) (start k : ℕ) (ok : allowed_of b (counts_of registers n) (read_records (suc k) (drop start bytes)) ≡ true)
-    (i : Instruction) (e : meant i ≡ instruction_at bytes start)
+    (i : Instruction) (e : some (meant i) ≡ instruction_at bytes start)
     (w : Register) (current : w.current ≡ writes i)
     (lanes : held w ≡ lanes_after b.lengths (lent variables cells) (held (register_at registers (first_of i))) (held (register_at registers (second_of i))) i)
     (after : Contents)
@@ -44,30 +44,24 @@ module _ (b : Block) (slots : List Statement) (count : ℕ) (are : b.statements 
   abbrev table : List Register
   table = set registers n w
 
-  read : Read (instruction_at bytes start)
-  read = is_read b (counts_of registers n) (instruction_at bytes start) rest (rw (records_at bytes start k) at ok)
-
   abbrev j : Meaning
-  j = read.instruction
+  j = meant i
 
   split : read_records (suc k) (drop start bytes) ≡ after_one j rest
-  split = records_at bytes start k ∙ ap (λ (x : Option Meaning). behind x rest) read.is
+  split = records_at bytes start k ∙ ap (λ (x : Option Meaning). behind x rest) (sym e)
 
   ok_split : allowed_of b (counts_of registers n) (after_one j rest) ≡ true
   ok_split = subst (λ (x : Option (List Meaning)). allowed_of b (counts_of registers n) x ≡ true) split ok
-
-  is_meant : meant i ≡ some j
-  is_meant = e ∙ read.is
 
   ok_one : is_allowed b (counts_of registers n) j ≡ true
   ok_one = one_allowed_lem b (counts_of registers n) j rest ok_split
 
   pub more_small : more ≤ 96
-  more_small = rw current (stays_small b registers n small sized i j is_meant ok_one)
+  more_small = rw current (stays_small b registers n small sized i ok_one)
 
   same_card : run_instruction b j (card_of registers n (lent variables cells)) ≡ card_of table more after
   same_card =
-      turn b slots count are room registers n small sized variables cells i j is_meant (load_fits bytes start j read.is) ok_one
+      turn b slots count are room registers n small sized variables cells i (load_fits bytes start j (sym e)) ok_one
       ∙ ap₂ {C = Card} (λ m rs. record { contents = m; registers = rs }) (sym contents)
       (sym (stored registers n w (writes i) _ (omega arith) current lanes))
 
@@ -81,7 +75,7 @@ module _ (b : Block) (slots : List Statement) (count : ℕ) (are : b.statements 
   still_paid price =
       ap (paid b price) split
       ∙ one_paid b (counts_of registers n) j price rest ok_split
-      ∙ ap (λ (p : ℕ). paid b (price + p) rest) (sym (priced b slots count are room registers n small sized variables cells i j is_meant ok_one))
+      ∙ ap (λ (p : ℕ). paid b (price + p) rest) (sym (priced b slots count are room registers n small sized variables cells i ok_one))
 
   pub still_left : left b (card_of registers n (lent variables cells)) (read_records (suc k) (drop start bytes)) ≡ left b (card_of table more after) rest
   still_left =
@@ -93,7 +87,7 @@ module _ (b : Block) (slots : List Statement) (count : ℕ) (are : b.statements 
 pub onward : (b : Block) (slots : List Statement) (count : ℕ) → b.statements ≡ take count slots → length slots ≡ 64
     → (registers : List Register) (n : ℕ) → n ≤ 96 → length registers ≡ 97 → (variables cells bytes : List ℕ) (start k : ℕ)
     → allowed_of b (counts_of registers n) (read_records (suc k) (drop start bytes)) ≡ true
-    → (i : Instruction) → meant i ≡ instruction_at bytes start
+    → (i : Instruction) → some (meant i) ≡ instruction_at bytes start
     → (lengths : List ℕ) (s : Statement) (x y w : Register) (after : Contents)
     → lengths ≡ b.lengths → s ≡ statement_at slots (statement_of i) → x ≡ register_at registers (first_of i) → y ≡ register_at registers (second_of i)
     → w.current ≡ writes i

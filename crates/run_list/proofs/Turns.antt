@@ -1,7 +1,6 @@
 -- One turn of a list's run: an instruction that is allowed, done on a table of registers, is the instruction done on the card.
-use mathlib.Core.Path.{◌≡◌, refl, sym, ap, subst, ◌∙◌}
+use mathlib.Core.Path.{◌≡◌, refl, sym, ap, ◌∙◌}
 use mathlib.Core.Bool.{true, ◌&&◌}
-use mathlib.Core.Option.{Option, none, some}
 use mathlib.Core.List.{List, [], ◌∷◌, ◌++◌, map}
 use Prim.Native.Nat.{ℕ, zero, suc, ◌≤◌, ◌<◌}
 use native.Mathlib.Omega.{arith}
@@ -17,14 +16,14 @@ use Rattle.meaning.specs.List.{Instruction as Meaning, is_next, is_written, has_
 use Rattle.meaning.specs.List as List
 use Rattle.meaning.specs.Card.{Card, row, lanes_of, run_instruction}
 use Rattle.instructions.specs.declared.Instruction.{Instruction}
-use Rattle.instructions.specs.declared.Instruction.TheVariants.{Broken, S, L, C, G, Copy, O, W, D, X}
+use Rattle.instructions.specs.declared.Instruction.TheVariants.{S, L, C, G, Copy, O, W, D, X}
 use Rattle.instructions.specs.Meant.{meant}
 use Rattle.memory.specs.Lent.{lent}
 use Rattle.instructions.specs.declared.Register.{Register}
 use Rattle.card.specs.Registers.{held, row_fetched}
 use Rattle.card.specs.Step.{writes, lanes_after, contents_after}
 use Rattle.card.proofs.Lanes.{row_fetched_lem, row_stored_lem}
-use Rattle.rules.specs.Price.{price_of, price_meant}
+use Rattle.rules.specs.Price.{price_of}
 use Rattle.rules.specs.Price as Price
 use Rattle.rules.proofs.Tied.{price_meant_lem}
 use Rattle.run_list.specs.Runs.{statement_of, first_of, second_of, slot_of, missing, register_at, statement_at, card_of, counts_of}
@@ -97,10 +96,6 @@ module _ (b : Block) (slots : List Statement) (count : ℕ) (are : b.statements 
             (map held (take n registers));
       }
 
-  abbrev Turn : Instruction → Option Meaning → Type 0
-  Turn i none = Unit
-  Turn i (some j) = load_lanes j ≤ 4 → is_allowed b counts j ≡ true → run_instruction b j card ≡ tabled i
-
   written_below : (r k : ℕ) → is_written counts r k ≡ true → r < n
   written_below r k e = omega (arith, ltb-true r (length counts) (and_left _ _ e), length_counts registers n (omega arith))
 
@@ -116,35 +111,26 @@ module _ (b : Block) (slots : List Statement) (count : ℕ) (are : b.statements 
       rw are (get_or-take count slots s blank (omega (arith, length-take count slots))
       ∙ ap (λ (k : ℕ). get_or slots k blank) (sym (slot_there 64 s (omega (arith, length-take count slots)))))
 
-  turns : (i : Instruction) → Turn i (meant i)
+  pub turn : (i : Instruction) → load_lanes (meant i) ≤ 4 → is_allowed b counts (meant i) ≡ true → run_instruction b (meant i) card ≡ tabled i
   unfolding run_instruction contents_after lanes_after
-  turns Broken = tt
-  turns (S s) = λ fits ok. rw (named s (ltb-true s (length b.statements) ok))
-  turns (L r k a i) = λ fits ok.
+  turn (S s) = λ fits ok. rw (named s (ltb-true s (length b.statements) ok))
+  turn (L r k a i) = λ fits ok.
       ap {B = Card} (λ lanes. record { contents = m; registers = map held (take n registers) ++ lanes ∷ [] }) (loaded_row b.lengths variables cells k a i fits)
-  turns (C r k c₀ c₁ c₂ c₃) = λ fits ok. refl
-  turns (G r k o₀ o₁ o₂ o₃) = λ fits ok. rw (take_map (fetch b.lengths m) k (o₀ ∷ o₁ ∷ o₂ ∷ o₃ ∷ []))
-  turns (Copy r k ra) = λ fits ok. rw (there ra (written_below ra k (and_right (is_next counts r) _ (and_left _ _ ok))))
-  turns (O r operation k ra rb) = λ fits ok.
+  turn (C r k c₀ c₁ c₂ c₃) = λ fits ok. refl
+  turn (G r k o₀ o₁ o₂ o₃) = λ fits ok. rw (take_map (fetch b.lengths m) k (o₀ ∷ o₁ ∷ o₂ ∷ o₃ ∷ []))
+  turn (Copy r k ra) = λ fits ok. rw (there ra (written_below ra k (and_right (is_next counts r) _ (and_left _ _ ok))))
+  turn (O r operation k ra rb) = λ fits ok.
       rw (
         there ra (written_below ra k (and_right (is_next counts r) _ (and_left _ _ ok))),
         there rb (written_below rb k (and_right (is_next counts r && is_written counts ra k) _ ok)),
       )
-  turns (W r k a i) = λ fits ok.
+  turn (W r k a i) = λ fits ok.
       rw (there r (written_below r k (and_left _ _ ok)), row_stored_lem b.lengths variables k a i (held (register_at registers r)) cells)
-  turns (D r lane a i) = λ fits ok. rw (there r (lane_below r lane (and_left _ _ ok)))
-  turns (X r lane v) = λ fits ok. rw (there r (lane_below r lane (and_left _ _ ok)))
-
-  pub turn : (i : Instruction) (j : Meaning) → meant i ≡ some j → load_lanes j ≤ 4 → is_allowed b counts j ≡ true → run_instruction b j card ≡ tabled i
-  turn i j e = subst (Turn i) e (turns i)
+  turn (D r lane a i) = λ fits ok. rw (there r (lane_below r lane (and_left _ _ ok)))
+  turn (X r lane v) = λ fits ok. rw (there r (lane_below r lane (and_left _ _ ok)))
 
   -- the price with the statement that the table has
-  abbrev Priced : Instruction → Option Meaning → Type 0
-  Priced i none = Unit
-  Priced i (some j) = is_allowed b counts j ≡ true → price_of i (statement_at slots (statement_of i)) ≡ price_of i (Price.named b.statements i)
-
-  prices : (i : Instruction) → Priced i (meant i)
-  prices Broken = tt
+  prices : (i : Instruction) → is_allowed b counts (meant i) ≡ true → price_of i (statement_at slots (statement_of i)) ≡ price_of i (Price.named b.statements i)
   prices (S s) = λ ok. ap statement_price (sym (named s (ltb-true s (length b.statements) ok)))
   prices (L r k a i) = λ ok. refl
   prices (C r k c₀ c₁ c₂ c₃) = λ ok. refl
@@ -155,6 +141,5 @@ module _ (b : Block) (slots : List Statement) (count : ℕ) (are : b.statements 
   prices (D r lane a i) = λ ok. refl
   prices (X r lane v) = λ ok. refl
 
-  pub priced : (i : Instruction) (j : Meaning) → meant i ≡ some j → is_allowed b counts j ≡ true
-      → price_of i (statement_at slots (statement_of i)) ≡ instruction_price b.statements j
-  priced i j e ok = subst (Priced i) e (prices i) ok ∙ price_meant_lem b.statements i ∙ ap (price_meant b.statements) e
+  pub priced : (i : Instruction) → is_allowed b counts (meant i) ≡ true → price_of i (statement_at slots (statement_of i)) ≡ instruction_price b.statements (meant i)
+  priced i ok = prices i ok ∙ price_meant_lem b.statements i

@@ -11,26 +11,17 @@ use Rattle.meaning.specs.List.{Instruction as Meaning, list_price}
 use Rattle.meaning.specs.Card.{Card, run_instruction}
 use Rattle.meaning.specs.Calls.{Ran}
 use Rattle.instructions.specs.declared.Instruction.{Instruction}
-use Rattle.instructions.specs.declared.Instruction.TheVariants.{Broken, S, L, C, G, Copy, O, W, D, X}
+use Rattle.instructions.specs.declared.Instruction.TheVariants.{S, L, C, G, Copy, O, W, D, X}
+use Rattle.instructions.specs.Meant.{number_named}
 use Rattle.instructions.specs.declared.Register.{Register}
 use Rattle.card.specs.Registers.{held}
 
 -- the statement that S names; 0 where none is named
 abbrev pub statement_of : Instruction → ℕ
-statement_of Broken = 0
-statement_of (S s) = s
-statement_of (L r k a i) = 0
-statement_of (C r k c₀ c₁ c₂ c₃) = 0
-statement_of (G r k o₀ o₁ o₂ o₃) = 0
-statement_of (Copy r k ra) = 0
-statement_of (O r operation k ra rb) = 0
-statement_of (W r k a i) = 0
-statement_of (D r lane a i) = 0
-statement_of (X r lane v) = 0
+statement_of i = number_named i
 
 -- the register that is read, or the first of two
 abbrev pub first_of : Instruction → ℕ
-first_of Broken = 0
 first_of (S s) = 0
 first_of (L r k a i) = 0
 first_of (C r k c₀ c₁ c₂ c₃) = 0
@@ -42,7 +33,6 @@ first_of (D r lane a i) = r
 first_of (X r lane v) = r
 
 abbrev pub second_of : Instruction → ℕ
-second_of Broken = 0
 second_of (S s) = 0
 second_of (L r k a i) = 0
 second_of (C r k c₀ c₁ c₂ c₃) = 0

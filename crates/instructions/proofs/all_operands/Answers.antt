@@ -1,16 +1,13 @@
 -- `instructions::all_operands` meets its contract.
-use mathlib.Core.Bool.{and-true}
+use borrow.Author.Rules.{rules}
+use Rattle.std.specs.Bool.{IsTrue}
+use Rattle.std.specs.Prelude.{◌↔◌}
+use Rattle.std.specs.List.{AllPass}
+use Rattle.meaning.specs.Format.{is_operand}
+use Rattle.instructions.proofs.Gathers.{all_pass}
 use Rattle.instructions.proofs.all_operands.Goals as goal
 
-pub returns-then-is_operand-3 : goal.returns-then-is_operand-3
-returns-then-is_operand-3 c =
-    simp (
-      c.is_operand-then-is_operand-3.ensures,
-      c.if-is_operand-3.true,
-      ← c.is_operand-then-is_operand-2.ensures,
-      c.if-is_operand-2.true,
-      ← c.is_operand-then-is_operand.ensures,
-      c.if-is_operand.true,
-      ← c.is_operand.ensures,
-      and-true,
-    )
+pub returns : goal.returns
+returns c =
+    let e : IsTrue c.all.result ↔ AllPass is_operand c.args.operands.now = search rules in
+    all_pass is_operand c.args.operands.now c.all.result e

@@ -1,6 +1,6 @@
 -- `instructions::read_instruction` meets its contract: by its code.
 use native.Mathlib.Omega.{arith}
-use Rattle.instructions.proofs.Codes.{by_code, eight_up, unknown_code}
+use Rattle.instructions.proofs.Codes.{by_code, unknown_code}
 use mathlib.Core.Path.{sym, ◌∙◌}
 use Rattle.instructions.proofs.read_instruction.Goals as goal
 
@@ -31,12 +31,4 @@ returns-in-7 c = c.read_x.ensures ∙ by_code c.args.bytes.now 7 (sym c.in-7.is 
 pub returns-in_default : goal.returns-in_default
 returns-in_default c =
     unknown_code c.args.bytes.now c.field.result c.field.ensures
-    (eight_up c.field.result
     (omega arith)
-    (omega arith)
-    (omega arith)
-    (omega arith)
-    (omega arith)
-    (omega arith)
-    (omega arith)
-    (omega arith))
