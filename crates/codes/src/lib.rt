@@ -12,8 +12,8 @@ pub fn place_code(place: Place) -> u64
     ensures { result ≡ place_code place }
 {
     match place {
-        Place::Variable(v) => 2 + 2 * v as u64,
-        Place::Cell(a, i) => 514 + 257 * a as u64 + i as u64,
+        Place::Variable(v) => 2 + 2 * u64::from(v),
+        Place::Cell(a, i) => 514 + 257 * u64::from(a) + u64::from(i),
     }
 }
 
@@ -22,7 +22,7 @@ pub fn operand_code(operand: Operand) -> u64
 {
     match operand {
         Operand::Nothing => 0,
-        Operand::Constant(c) => 4294967296 + 2 * c as u64,
+        Operand::Constant(c) => 4294967296 + 2 * u64::from(c),
         Operand::Held(place) => place_code(place),
     }
 }
@@ -31,17 +31,13 @@ pub fn operand_code(operand: Operand) -> u64
 pub fn in_row(code: u64, other: u64) -> bool
     ensures { result ≡ codes_in_row code other }
 {
-    if code < other {
-        other - code == 1
-    } else {
-        false
-    }
+    code < other && other - code == 1
 }
 
 pub fn is_cell(code: u64) -> bool
     ensures { result ≡ is_cell_code code }
 {
-    if code < 514 { false } else { code < 4294967296 }
+    (514..4294967296).contains(&code)
 }
 
 pub fn is_constant(code: u64) -> bool
@@ -53,48 +49,36 @@ pub fn is_constant(code: u64) -> bool
 pub fn is_variable(code: u64) -> bool
     ensures { result ≡ is_variable_code code }
 {
-    if code < 2 { false } else { code < 514 }
+    (2..514).contains(&code)
 }
 
 pub fn cell_count(code: u64) -> u64
     ensures { (result ≡ cell_code code) × (result ≤ 1) }
 {
-    if is_cell(code) { 1 } else { 0 }
+    u64::from(is_cell(code))
 }
 
 // The array and the index of a cell, from its code.
 pub fn array_of(code: u64) -> u8
     ensures { result ≡ (code - 514) / 257 % 256 }
 {
-    if code < 514 {
-        return 0;
-    }
-    rows::low_byte((code - 514) / 257)
+    rows::low_byte(code.saturating_sub(514) / 257)
 }
 
 pub fn index_of(code: u64) -> u8
     ensures { result ≡ (code - 514) % 257 % 256 }
 {
-    if code < 514 {
-        return 0;
-    }
-    rows::low_byte((code - 514) % 257)
+    rows::low_byte(code.saturating_sub(514) % 257)
 }
 
 pub fn variable_of(code: u64) -> u8
     ensures { result ≡ (code - 2) / 2 % 256 }
 {
-    if code < 2 {
-        return 0;
-    }
-    rows::low_byte((code - 2) / 2)
+    rows::low_byte(code.saturating_sub(2) / 2)
 }
 
 pub fn constant_of(code: u64) -> u64
     ensures { result ≡ (code - 4294967296) / 2 }
 {
-    if code < 4294967296 {
-        return 0;
-    }
-    (code - 4294967296) / 2
+    code.saturating_sub(4294967296) / 2
 }

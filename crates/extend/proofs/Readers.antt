@@ -4,15 +4,13 @@ use mathlib.Core.Bool.{Bool, true, false, ◌&&◌, ◌||◌, false≢true}
 use mathlib.Core.Option.{Option, none, some}
 use mathlib.Core.List.{List}
 use Prim.Native.Nat.{ℕ, ◌-◌, ◌≤◌, ◌<◌}
-use native.Mathlib.Omega.{arith}
-use lib.Dec.{eqb, ltb, leb}
+use lib.Dec.{ltb, leb}
 use lib.ListN.{length}
 use borrow.Author.Tests.{lt-ltb, le-ltb, ne_eqb}
 use Rattle.basics.specs.Choice.{pick}
 use Rattle.basics.specs.Counting.{count}
 use Rattle.basics.specs.Sets.{has}
 use Rattle.basics.proofs.Counting.{count_up, count_both}
-use Rattle.basics.proofs.Parts.{pick_holds}
 use Rattle.meaning.specs.declared.Statement.{Statement}
 use Rattle.meaning.specs.Block.{statement, is_variable, left, right, operand}
 use Rattle.meaning.specs.Pairs.{Pair, pair, may_be_admitted}
@@ -25,23 +23,16 @@ use Rattle.reach.specs.Tied.{Defined}
 use Rattle.pairs.specs.Admission.{Tables, may_pair}
 use Rattle.estimate.specs.Costs.{loss_of, gain_of}
 use Rattle.estimate.proofs.Definitions.{Defines, definition_defines, definition_at}
-use Rattle.extend.specs.Visits.{Found, found, better_of, best_of_partners, best_of}
+use Rattle.std.specs.Prelude.{Option as Maybe, Some, None}
+use Rattle.extend.specs.declared.Best.{Best as Found}
+use Rattle.extend.specs.Visits.{found, is_greater, better_of, best_of_partners, best_of}
 
 -- the best so far, as the tables have it
-abbrev pub found_of : List Statement → List Pair → Option Pair → Found
-found_of ss pairs none = found 64 0 0
-found_of ss pairs (some p) = found p.left p.right (estimate ss pairs p)
+abbrev pub found_of : List Statement → List Pair → Option Pair → Maybe Found
+found_of ss pairs none = None
+found_of ss pairs (some p) = Some (found p.left p.right (estimate ss pairs p))
 
--- and both are statements of the block
-abbrev pub Ranged : ℕ → Option Pair → Type 0
-Ranged n none = Unit
-Ranged n (some p) = (p.left < n) × (p.right < n)
-
-pub record Tracks (ss : List Statement) (pairs : List Pair) (f : Found) (best : Option Pair) : Type 0 where
-  pub same : f ≡ found_of ss pairs best
-  pub ranged : Ranged (length ss) best
-
-choice : (ss : List Statement) (pairs : List Pair) (p : Pair) (best : Option Pair) (a a' b b' c c' : Bool) (f : Found)
+choice : (ss : List Statement) (pairs : List Pair) (p : Pair) (best : Option Pair) (a a' b b' c c' : Bool) (f : Maybe Found)
     → a ≡ a' → b ≡ b' → c ≡ c' → f ≡ found_of ss pairs (some p)
     → pick a (pick b (pick c f (found_of ss pairs best)) (found_of ss pairs best)) (found_of ss pairs best) ≡ found_of ss pairs (pick (a' && b' && c') (some p) best)
 choice ss pairs p best a true b true c true f e g h k = rw (e, g, h) k
@@ -100,56 +91,49 @@ module _ (ss : List Statement) (facts reached : List ℕ) (few : length ss ≤ 6
   same_estimate : (p : Pair) → p.left < length ss → p.right < length ss → gain_of facts p - loss_of facts t.next p ≡ estimate ss pairs p
   same_estimate p low high = ap₂ ◌-◌ (same_gain p low high) (same_loss p low high)
 
-  same_better : (p : Pair) → p.left < length ss → p.right < length ss → (best : Option Pair) → Ranged (length ss) best
-      → eqb (found_of ss pairs best).left 64 || ltb (found_of ss pairs best).estimate (gain_of facts p - loss_of facts t.next p) ≡ is_better ss pairs p best
-  same_better p low high none ranged = refl
-  same_better p low high (some best) ranged =
-      ap₂ (λ (first : Bool) (e : ℕ). first || ltb (estimate ss pairs best) e) (ne_eqb best.left 64 (λ e. omega (arith, ranged.0))) (same_estimate p low high)
+  same_better : (p : Pair) → p.left < length ss → p.right < length ss → (best : Option Pair)
+      → is_greater (gain_of facts p - loss_of facts t.next p) (found_of ss pairs best) ≡ is_better ss pairs p best
+  same_better p low high none = refl
+  same_better p low high (some best) = ap (ltb (estimate ss pairs best)) (same_estimate p low high)
 
-  tracks_better : (p : Pair) → p.left < length ss → p.right < length ss → (f : Found) (best : Option Pair) → Tracks ss pairs f best
-      → Tracks ss pairs (better_of facts reached t p f) (better ss pairs p best)
+  tracks_better : (p : Pair) → p.left < length ss → p.right < length ss → (f : Maybe Found) (best : Option Pair) → f ≡ found_of ss pairs best
+      → better_of facts reached t p f ≡ found_of ss pairs (better ss pairs p best)
   tracks_better p low high f best tracks =
-      record {
-        same =
-            ap (better_of facts reached t p) tracks.same
-            ∙ choice ss pairs p best (may_pair facts reached t p.left p.right) (may_be_admitted ss pairs p)
-            (leb (loss_of facts t.next p) (gain_of facts p)) (pays ss pairs p)
-            (eqb (found_of ss pairs best).left 64 || ltb (found_of ss pairs best).estimate (gain_of facts p - loss_of facts t.next p)) (is_better ss pairs p best)
-            (found p.left p.right (gain_of facts p - loss_of facts t.next p))
-            (same-may p low high) (same_pays p low high) (same_better p low high best tracks.ranged)
-            (ap (found p.left p.right) (same_estimate p low high));
-        ranged =
-            pick_holds (Ranged (length ss)) (may_be_admitted ss pairs p && pays ss pairs p && is_better ss pairs p best) (some p) best
-            (λ e. (low, high)) (λ e. tracks.ranged);
-      }
+      ap (better_of facts reached t p) tracks
+      ∙ choice ss pairs p best (may_pair facts reached t p.left p.right) (may_be_admitted ss pairs p)
+      (leb (loss_of facts t.next p) (gain_of facts p)) (pays ss pairs p)
+      (is_greater (gain_of facts p - loss_of facts t.next p) (found_of ss pairs best)) (is_better ss pairs p best)
+      (Some (found p.left p.right (gain_of facts p - loss_of facts t.next p)))
+      (same-may p low high) (same_pays p low high) (same_better p low high best)
+      (ap (λ (e : ℕ). Some (found p.left p.right e)) (same_estimate p low high))
 
   -- a walk over the readers of s's result
-  tracks_walk : (s : ℕ) → s < length ss → (f : ℕ → Found → Found) (g : ℕ → Option Pair → Option Pair)
-      → ((j : ℕ) (x : Found) (y : Option Pair) → j < length ss → Tracks ss pairs x y → Tracks ss pairs (f j x) (g j y))
-      → (x : Found) (y : Option Pair) → Tracks ss pairs x y
-      → Tracks ss pairs (walk 64 (fact_at facts 448 s) f x) (count (length ss) 0 (λ j z. elim (reads_result ss s j) [ true ↦ g j z | false ↦ z ]) y)
+  tracks_walk : (s : ℕ) → s < length ss → (f : ℕ → Maybe Found → Maybe Found) (g : ℕ → Option Pair → Option Pair)
+      → ((j : ℕ) (x : Maybe Found) (y : Option Pair) → j < length ss → x ≡ found_of ss pairs y → f j x ≡ found_of ss pairs (g j y))
+      → (x : Maybe Found) (y : Option Pair) → x ≡ found_of ss pairs y
+      → walk 64 (fact_at facts 448 s) f x ≡ found_of ss pairs (count (length ss) 0 (λ j z. elim (reads_result ss s j) [ true ↦ g j z | false ↦ z ]) y)
   tracks_walk s below f g step x y start =
       rw (walk_counts (length ss) (fact_at facts 448 s) f x few (λ j past. defined.readers s j below ∙ ap (λ (test : Bool). test && reads_result ss s j) (le-ltb j (length ss) past)))
-      (count_both (λ (j : ℕ) (x : Found) (y : Option Pair). Tracks ss pairs x y)
+      (count_both (λ (j : ℕ) (x : Maybe Found) (y : Option Pair). x ≡ found_of ss pairs y)
       (λ j x. elim (has (fact_at facts 448 s) j) [ true ↦ f j x | false ↦ x ]) (λ j z. elim (reads_result ss s j) [ true ↦ g j z | false ↦ z ])
       (length ss) x y start
       λ j x y below' tracks.
       by j x y below' tracks (has (fact_at facts 448 s) j) (reads_result ss s j)
       (defined.readers s j below ∙ ap (λ (test : Bool). test && reads_result ss s j) (lt-ltb j (length ss) below')))
     where
-      by : (j : ℕ) (x : Found) (y : Option Pair) → j < length ss → Tracks ss pairs x y → (a b : Bool) → a ≡ b
-          → Tracks ss pairs (elim a as (λ z. Found) [ true ↦ f j x | false ↦ x ]) (elim b as (λ z. Option Pair) [ true ↦ g j y | false ↦ y ])
+      by : (j : ℕ) (x : Maybe Found) (y : Option Pair) → j < length ss → x ≡ found_of ss pairs y → (a b : Bool) → a ≡ b
+          → elim a as (λ z. Maybe Found) [ true ↦ f j x | false ↦ x ] ≡ found_of ss pairs (elim b as (λ z. Option Pair) [ true ↦ g j y | false ↦ y ])
       by j x y below' tracks true true e = step j x y below' tracks
       by j x y below' tracks true false e = absurd (false≢true (sym e))
       by j x y below' tracks false true e = absurd (false≢true e)
       by j x y below' tracks false false e = tracks
 
   -- The best readers are the same.
-  pub tracks_readers : (p : Pair) → p.left < length ss → p.right < length ss → Tracks ss pairs (best_of facts reached t p) (best_readers ss pairs p)
+  pub tracks_readers : (p : Pair) → p.left < length ss → p.right < length ss → best_of facts reached t p ≡ found_of ss pairs (best_readers ss pairs p)
   unfolding best_of best_readers
   tracks_readers p low high =
       tracks_walk p.left low (λ reader. best_of_partners facts reached t reader (fact_at facts 448 p.right)) (best_with ss pairs p.right)
       (λ reader x y below.
       tracks_walk p.right high (λ partner. better_of facts reached t (pair reader partner)) (λ partner. better ss pairs (pair reader partner))
       (λ partner x y below'. tracks_better (pair reader partner) below below' x y) x y)
-      (found 64 0 0) none (record { same = refl; ranged = tt })
+      None none refl

@@ -7,7 +7,7 @@ use Prim.Native.Nat.{ℕ, zero, suc, ◌+◌, ◌≤◌, ◌<◌}
 use native.Mathlib.Omega.{arith}
 use lib.Dec.{ltb, leb}
 use lib.ListN.{length, get_or}
-use borrow.Author.Tests.{lt-ltb, ltb-true, ne_eqb}
+use borrow.Author.Tests.{lt-ltb, ltb-true}
 use Rattle.basics.specs.Choice.{pick}
 use Rattle.basics.specs.Lists.{all}
 use Rattle.meaning.specs.declared.Statement.{Statement}
@@ -26,8 +26,10 @@ use Rattle.pairs.proofs.Tables.{admit_tables, every_number, tables_size, order_a
 use Rattle.estimate.specs.Costs.{loss_of, gain_of}
 use Rattle.estimate.proofs.Definitions.{Defines, defines_below, definition_defines, definitions_column, definition_at, definitions_at}
 use Rattle.estimate.proofs.Estimates.{same_gain, same_loss}
-use Rattle.extend.specs.Visits.{Found, admit_paying, admit_definitions as admit_column, best_of, admit_found, admit_readers, visit_tables, visit_tables_from}
-use Rattle.extend.proofs.Readers.{Tracks, none_left, none_right, tracks_readers}
+use Rattle.std.specs.Prelude.{Option as Maybe}
+use Rattle.extend.specs.declared.Best.{Best as Found}
+use Rattle.extend.specs.Visits.{admit_paying, admit_definitions as admit_column, best_of, admit_found, admit_readers, visit_tables, visit_tables_from}
+use Rattle.extend.proofs.Readers.{found_of, none_left, none_right, tracks_readers}
 
 -- a choice between tables is one between lists
 chosen : (a b : Bool) (more now : List Pair) (t : Tables) → a ≡ b → t ≡ tables_of more → pick a t (tables_of now) ≡ tables_of (pick b more now)
@@ -35,13 +37,10 @@ chosen a true more now t e f = rw e f
 chosen a false more now t e f = rw e
 
 -- the best, admitted to the tables and to the list
-admits_best : (ss : List Statement) (few : length ss ≤ 64) (pairs : List Pair) (f : Found) (best : Option Pair) → Tracks ss pairs f best
+admits_best : (ss : List Statement) (pairs : List Pair) (f : Maybe Found) (best : Option Pair) → f ≡ found_of ss pairs best
     → admit_found f (tables_of pairs) ≡ tables_of (admit_best best pairs)
-admits_best ss few pairs f none tracks = rw tracks.same
-admits_best ss few pairs f (some p) tracks =
-    ap (λ (g : Found). admit_found g (tables_of pairs)) tracks.same
-    ∙ ap (λ (test : Bool). pick test (tables_of pairs) (admit_to p (tables_of pairs))) (ne_eqb p.left 64 (λ e. omega (arith, tracks.ranged.0)))
-    ∙ sym (admit_tables pairs p)
+admits_best ss pairs f none tracks = rw tracks
+admits_best ss pairs f (some p) tracks = ap (λ (g : Maybe Found). admit_found g (tables_of pairs)) tracks ∙ sym (admit_tables pairs p)
 
 -- what the tables say of pairs of statements, for the pairs so far
 record Told (ss : List Statement) (facts reached : List ℕ) (pairs : List Pair) : Type 0 where
@@ -86,7 +85,7 @@ module _ (ss : List Statement) (facts reached : List ℕ) (few : length ss ≤ 6
   to_use : (p : Pair) → p.left < length ss → p.right < length ss → admit_readers facts reached p (tables_of pairs) ≡ tables_of (definition_to_use ss p pairs)
   unfolding definition_to_use
   to_use p low high =
-      admits_best ss few pairs (best_of facts reached (tables_of pairs) p) (best_readers ss pairs p)
+      admits_best ss pairs (best_of facts reached (tables_of pairs) p) (best_readers ss pairs p)
       (tracks_readers ss facts reached few defined pairs (tables_of pairs) told.may told.gains told.loses p low high)
       ∙ ap tables_of (only_variables (is_variable (statement ss p.left).destination) (is_variable (statement ss p.right).destination) refl refl)
     where

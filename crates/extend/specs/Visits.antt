@@ -1,11 +1,12 @@
 -- The extension over the tables.
-use Rattle.std.specs.Prelude.{ℕ, zero, suc, ◌+◌, ◌-◌, true, false, ◌&&◌, ◌||◌, List, eqb, ltb, leb, get_or}
+use Rattle.std.specs.Prelude.{ℕ, zero, suc, ◌+◌, ◌-◌, ◌<◌, Bool, true, false, ◌&&◌, List, ltb, leb, get_or, Option, Some, None, IfSome}
 use Rattle.basics.specs.Choice.{pick}
 use Rattle.meaning.specs.Pairs.{Pair, pair}
 use Rattle.rows.specs.Walk.{walk}
 use Rattle.facts.specs.Facts.{fact_at}
 use Rattle.pairs.specs.Admission.{Tables, admit_to, may_pair}
 use Rattle.estimate.specs.Costs.{loss_of, gain_of}
+use Rattle.extend.specs.declared.Best.{Best as Found}
 
 -- `admit_if_pays`
 abbrev pub admit_paying : List ℕ → List ℕ → Pair → Tables → Tables
@@ -18,34 +19,38 @@ admit_definitions facts reached definition p t =
     pick (ltb (fact_at facts definition p.left) 64 && ltb (fact_at facts definition p.right) 64)
     (admit_paying facts reached (pair (fact_at facts definition p.left) (fact_at facts definition p.right)) t) t
 
--- the best readers so far, with their estimate; none where left is 64
-pub record Found : Type 0 where
-  pub left : ℕ
-  pub right : ℕ
-  pub estimate : ℕ
-
+-- the best readers so far, with their estimate
 abbrev pub found : ℕ → ℕ → ℕ → Found
 found left right estimate = record { left = left; right = right; estimate = estimate }
 
--- `is_better`
-abbrev pub greater_of : Pair → ℕ → Found → Found
-greater_of p estimate best = pick (eqb best.left 64 || ltb best.estimate estimate) (found p.left p.right estimate) best
+-- and both are statements
+abbrev pub InBlock : Option Found → Type 0
+InBlock best = IfSome best (λ b. (b.left < 64) × (b.right < 64))
+
+-- `greater`
+abbrev pub is_greater : ℕ → Option Found → Bool
+is_greater estimate None = true
+is_greater estimate (Some best) = ltb best.estimate estimate
+
+abbrev pub greater_of : Pair → ℕ → Option Found → Option Found
+greater_of p estimate best = pick (is_greater estimate best) (Some (found p.left p.right estimate)) best
 
 -- `better`
-abbrev pub better_of : List ℕ → List ℕ → Tables → Pair → Found → Found
+abbrev pub better_of : List ℕ → List ℕ → Tables → Pair → Option Found → Option Found
 better_of facts reached t p best =
     pick (may_pair facts reached t p.left p.right)
     (pick (leb (loss_of facts t.next p) (gain_of facts p)) (greater_of p (gain_of facts p - loss_of facts t.next p) best) best) best
 
-abbrev pub best_of_partners : List ℕ → List ℕ → Tables → ℕ → ℕ → Found → Found
+abbrev pub best_of_partners : List ℕ → List ℕ → Tables → ℕ → ℕ → Option Found → Option Found
 best_of_partners facts reached t reader partners best = walk 64 partners (λ partner. better_of facts reached t (pair reader partner)) best
 
-unfoldable pub best_of : List ℕ → List ℕ → Tables → Pair → Found
+unfoldable pub best_of : List ℕ → List ℕ → Tables → Pair → Option Found
 best_of facts reached t p =
-    walk 64 (fact_at facts 448 p.left) (λ reader. best_of_partners facts reached t reader (fact_at facts 448 p.right)) (found 64 0 0)
+    walk 64 (fact_at facts 448 p.left) (λ reader. best_of_partners facts reached t reader (fact_at facts 448 p.right)) None
 
-abbrev pub admit_found : Found → Tables → Tables
-admit_found best t = pick (eqb best.left 64) t (admit_to (pair best.left best.right) t)
+abbrev pub admit_found : Option Found → Tables → Tables
+admit_found None t = t
+admit_found (Some best) t = admit_to (pair best.left best.right) t
 
 abbrev pub admit_readers : List ℕ → List ℕ → Pair → Tables → Tables
 admit_readers facts reached p t = admit_found (best_of facts reached t p) t

@@ -6,7 +6,7 @@ use mathlib.Core.List.{List, [], ◌∷◌}
 use Prim.Native.Nat.{ℕ, zero, suc, ◌+◌, ◌*◌, ◌≤◌, ◌<◌}
 use native.Mathlib.Omega.{arith}
 use lib.ListN.{length, get_or, take, replicate, length-take, length-replicate}
-use lib.Seq.{get_or-take}
+use lib.Seq.{get_or-take, take-length}
 use borrow.Author.Tests.{lt-ltb, le-ltb}
 use Rattle.basics.specs.Lists.{all}
 use Rattle.basics.proofs.Counting.{count_up}
@@ -168,3 +168,8 @@ stated_facts_lem slots n few there fit =
   where
     nothing_yet : (m : ℕ) → length {A = ℕ} (replicate m 0) ≡ 512 → Filled slots 0 (replicate m 0)
     nothing_yet m whole = record { whole = whole; met = λ k t small below. absurd (omega arith); waiting = λ k t small h. replicate_at m (64 * k + t) 0 }
+
+pub statements_stated : (ss : List Statement) → length ss ≤ 64 → all statement_fits ss ≡ true → Stated ss (stated_facts ss (length ss) (replicate 512 0))
+statements_stated ss few fit =
+    subst (λ (declared : List Statement). Stated declared (stated_facts ss (length ss) (replicate 512 0))) (take-length ss)
+    (stated_facts_lem ss (length ss) few (omega arith) (rw (take-length ss) fit))

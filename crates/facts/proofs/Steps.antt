@@ -1,19 +1,24 @@
--- One place named, case by case, as the tables are left; and what remains of a column at its first statement and at each one.
-use mathlib.Core.Path.{◌≡◌, sym, ap, ◌∙◌}
+-- One place named, case by case, as the tables are left; and a column before its first statement, and with one statement more.
+use mathlib.Core.Path.{◌≡◌, refl, ap, ◌∙◌}
 use mathlib.Core.List.{List}
-use Prim.Native.Nat.{ℕ, ◌+◌, ◌-◌, ◌≤◌, ◌<◌}
-use native.Mathlib.Nat.{sub-zero}
+use Prim.Native.Nat.{ℕ, suc, ◌+◌, ◌≤◌, ◌<◌}
+use native.Mathlib.Nat.{zero-add}
+use native.Mathlib.Omega.{arith}
 use lib.Dec.{eqb, leb}
 use lib.ListN.{length, get_or, set}
 use borrow.Author.Tests.{le-leb, lt-leb, eq-eqb, ne_eqb}
 use Rattle.basics.specs.Sets.{only}
-use Rattle.basics.proofs.Counting.{count_more}
+use Rattle.basics.proofs.Counting.{count_last}
 use Rattle.basics.proofs.Tests.{or_right}
 use Rattle.basics.specs.Counting.{count}
 use Rattle.meaning.specs.declared.Statement.{Statement}
 use Rattle.meaning.specs.Block.{statement}
 use Rattle.facts.specs.Facts.{fact_at, state_facts, stated_facts}
 use Rattle.facts.specs.Places.{Named, named_tables, join_at, name_place, name_places}
+
+-- a count with one number more
+pub one_more : {A : Type 0} (f : ℕ → A → A) (n : ℕ) (a : A) → count (n + 1) 0 f a ≡ f n (count n 0 f a)
+one_more f n a = let e : n + 1 ≡ suc n = omega arith in rw e (count_last f n 0 a ∙ ap (λ (k : ℕ). f k (count n 0 f a)) (zero-add n))
 
 module _ (code i : ℕ) (numbers named : List ℕ) (given : ℕ) where
   -- what is no place changes nothing
@@ -34,25 +39,19 @@ module _ (code i : ℕ) (numbers named : List ℕ) (given : ℕ) where
         → name_place code i (named_tables numbers named given) ≡ named_tables (set numbers code (given + 1)) (join_at named (given + 1) (only i)) (given + 1)
     names_first new = rw (ne_eqb code 0 some, lt-leb (length numbers) code within, eq-eqb (get_or numbers code 0) 0 new)
 
--- the table of those who name a place, stored by a function that was given the statement's own set
-pub joined_as : (numbers named after : List ℕ) (at given set i : ℕ) → set ≡ only i → after ≡ join_at named at set
-    → named_tables numbers after given ≡ named_tables numbers (join_at named at (only i)) given
-joined_as numbers named after at given set i alone e =
-    ap (λ (l : List ℕ). named_tables numbers l given) (e ∙ ap (λ (s : ℕ). join_at named at s) alone)
-
--- before the first number all remains
-pub stated : (ss : List Statement) (n : ℕ) (facts : List ℕ) → stated_facts ss n facts ≡ count (n - 0) 0 (λ i. state_facts i (statement ss i)) facts
+-- a column before its first statement, and with one statement more
+pub stated_none : (ss : List Statement) (facts : List ℕ) → stated_facts ss 0 facts ≡ facts
 unfolding stated_facts
-stated ss n facts = rw sub-zero
+stated_none ss facts = refl
 
-pub naming_all : (facts : List ℕ) (column n : ℕ) (t : Named) → name_places facts column n t ≡ count (n - 0) 0 (λ i. name_place (fact_at facts column i) i) t
+pub stated_more : (ss : List Statement) (n : ℕ) (facts : List ℕ) → stated_facts ss (n + 1) facts ≡ state_facts n (statement ss n) (stated_facts ss n facts)
+unfolding stated_facts
+stated_more ss n facts = one_more (λ i. state_facts i (statement ss i)) n facts
+
+pub named_none : (facts : List ℕ) (column : ℕ) (t : Named) → name_places facts column 0 t ≡ t
 unfolding name_places
-naming_all facts column n t = rw sub-zero
+named_none facts column t = refl
 
--- one statement more of a column, by the code that was looked up for it
-pub naming_more : (facts : List ℕ) (column n i code : ℕ) (t after : Named) → i < n → code ≡ fact_at facts column i → after ≡ name_place code i t
-    → count (n - i) i (λ j. name_place (fact_at facts column j) j) t ≡ count (n - (i + 1)) (i + 1) (λ j. name_place (fact_at facts column j) j) after
-naming_more facts column n i code t after below looked named =
-    let step : ℕ → Named → Named = λ j. name_place (fact_at facts column j) j in
-    let here : step i t ≡ after = sym (named ∙ ap (λ (c : ℕ). name_place c i t) looked) in
-    count_more step n i t below ∙ ap (count (n - (i + 1)) (i + 1) step) here
+pub named_more : (facts : List ℕ) (column n : ℕ) (t : Named) → name_places facts column (n + 1) t ≡ name_place (fact_at facts column n) n (name_places facts column n t)
+unfolding name_places
+named_more facts column n t = one_more (λ i. name_place (fact_at facts column i) i) n t

@@ -1,33 +1,30 @@
--- What the loops over pairs have still to do, one turn at a time, and the tables as a call leaves them.
+-- What the loops over pairs have still to do, one turn at a time; and the tables before the first statement, and with one statement more.
 use mathlib.Core.Path.{◌≡◌, refl, sym, ap, ap₂, ◌∙◌}
-use mathlib.Core.Bool.{Bool, true, false, ◌&&◌}
-use mathlib.Core.List.{List}
-use Prim.Native.Nat.{ℕ, zero, suc, ◌+◌, ◌-◌, ◌^◌, ◌≤◌, ◌<◌}
-use native.Mathlib.Nat.{sub-zero}
+use mathlib.Core.Bool.{Bool, true, false, cond, ◌&&◌}
+use mathlib.Core.List.{List, [], ◌∷◌}
+use Prim.Native.Nat.{ℕ, suc, ◌+◌, ◌-◌, ◌^◌, ◌≤◌, ◌<◌}
 use native.Mathlib.Omega.{arith}
 use lib.Dec.{eqb}
-use lib.Count.{count_trailing_zeros}
-use lib.ListN.{get_or, set}
+use lib.ListN.{get_or}
 use borrow.Author.Tests.{eq-eqb, ne_eqb}
+use Rattle.std.specs.Option.{unwrap_or, option_map}
+use Rattle.std.specs.List.{All, find, fold}
+use Rattle.std.specs.declared.option.Option.{Option}
+use Rattle.std.specs.declared.option.Option.TheVariants.{Some, None}
 use Rattle.basics.specs.Choice.{pick}
-use Rattle.basics.specs.Counting.{count}
-use Rattle.basics.specs.Sets.{nobody, only, join}
 use Rattle.basics.proofs.Counting.{more, none_left}
 use Rattle.meaning.specs.declared.Statement.{Statement}
 use Rattle.meaning.specs.Block.{statement}
-use Rattle.meaning.specs.Pairs.{pair}
-use Rattle.rows.specs.Walk.{behind_first, walk}
-use Rattle.rows.proofs.Walks.{walk_next, lowest_below}
-use Rattle.pairs.specs.Admission.{Tables, tables, admit_to, leads_to, may_pair, first_admitted, neighbours_of, seed_tables, seeded_tables}
+use Rattle.rows.specs.Walk.{members}
+use Rattle.rows.proofs.Walks.{walk_fold, members_below}
+use Rattle.facts.proofs.Steps.{one_more}
+use Rattle.pairs.specs.Admission.{Tables, leads_to, may_pair, first_admitted, neighbours_of, seed_tables, seeded_tables}
 
 -- a chain is followed: to what is looked for, to its end, or further
 abbrev turn : Bool → Bool → Bool → Bool
 turn there out rest = elim there [ true ↦ true | false ↦ elim out [ true ↦ false | false ↦ rest ] ]
 
 module _ (n i : ℕ) (next : List ℕ) (at to : ℕ) where
-  pub leads_all : leads_to n next at to ≡ leads_to (n - 0) next at to
-  leads_all = rw sub-zero
-
   pub leads_end : n ≤ i → leads_to (n - i) next at to ≡ false
   unfolding leads_to
   leads_end h = rw (none_left n i h)
@@ -50,52 +47,50 @@ module _ (n i : ℕ) (next : List ℕ) (at to : ℕ) where
     leads_on other some = one_turn false false (ne_eqb u to other) (ne_eqb u 64 some)
 
 -- the first that may be admitted is looked for
-walk_keeps : (n s : ℕ) (f : ℕ → ℕ → ℕ) (a : ℕ) → ((i : ℕ) → f i a ≡ a) → walk n s f a ≡ a
-unfolding walk
-walk_keeps zero s f a same = refl
-walk_keeps (suc n) s f a same = by (eqb s 0) (walk_keeps n (behind_first s) f a same)
-  where
-    by : (test : Bool) → walk n (behind_first s) f a ≡ a
-        → elim test [ true ↦ a | false ↦ walk n (behind_first s) f (f (count_trailing_zeros 64 s) a) ] ≡ a
-    by true rest = refl
-    by false rest = ap (walk n (behind_first s) f) (same (count_trailing_zeros 64 s)) ∙ rest
-
 abbrev finding : List ℕ → List ℕ → Tables → ℕ → ℕ → ℕ → ℕ
-finding facts reached t s u found = pick (eqb found 64 && may_pair facts reached t s u) u found
+finding facts reached t s found u = pick (eqb found 64 && may_pair facts reached t s u) u found
 
-module _ (facts reached : List ℕ) (t : Tables) (s rest : ℕ) (small : rest < 2 ^ 64) (some : rest ≡ nobody → ⊥) where
-  pub first_below : count_trailing_zeros 64 rest < 64
-  first_below = lowest_below rest small (ne_eqb rest nobody some)
+pub none_as_64 : (found : Option ℕ) → unwrap_or found 64 ≡ unwrap_or (option_map (λ x. x) found) 64
+none_as_64 None = refl
+none_as_64 (Some x) = refl
 
-  pub first_found : may_pair facts reached t s (count_trailing_zeros 64 rest) ≡ true → first_admitted facts reached t s rest ≡ count_trailing_zeros 64 rest
-  first_found may =
-      walk_next rest (finding facts reached t s) 64 small some
-      ∙ ap (λ (test : Bool). walk 64 (behind_first rest) (finding facts reached t s) (pick test (count_trailing_zeros 64 rest) 64)) may
-      ∙ walk_keeps 64 (behind_first rest) (finding facts reached t s) (count_trailing_zeros 64 rest)
-      (λ u.
-      let h : count_trailing_zeros 64 rest < 64 = first_below in
-      ap (λ (test : Bool). pick (test && may_pair facts reached t s u) u (count_trailing_zeros 64 rest)) (ne_eqb (count_trailing_zeros 64 rest) 64 (λ e. omega arith)))
+module _ (facts reached : List ℕ) (t : Tables) (s : ℕ) where
+  found_kept : (u : ℕ) (us : List ℕ) → u < 64 → fold (finding facts reached t s) u us ≡ u
+  found_kept u [] below = refl
+  found_kept u (v ∷ us) below = rw (ne_eqb u 64 (omega arith)) (found_kept u us below)
 
-  pub first_further : may_pair facts reached t s (count_trailing_zeros 64 rest) ≡ false → first_admitted facts reached t s rest ≡ first_admitted facts reached t s (behind_first rest)
-  first_further may =
-      walk_next rest (finding facts reached t s) 64 small some
-      ∙ ap (λ (test : Bool). walk 64 (behind_first rest) (finding facts reached t s) (pick test (count_trailing_zeros 64 rest) 64)) may
+  -- among those of a list, all of them numbers of statements
+  found_first : (us : List ℕ) → All (λ u. u < 64) us
+      → (unwrap_or (find (may_pair facts reached t s) us) 64 ≡ fold (finding facts reached t s) 64 us) × (unwrap_or (find (may_pair facts reached t s) us) 64 ≤ 64)
+  found_first [] small = (refl, omega arith)
+  found_first (u ∷ us) small = by (may_pair facts reached t s u) (found_first us (λ k d h. small (suc k) d (omega arith)))
+    where
+      below : u < 64
+      below = small 0 0 (omega arith)
 
--- the tables as they are left
-pub admitted_as : (order next order' next' : List ℕ) (size rights alone s t : ℕ) → order' ≡ set order size s → next' ≡ set next s t → alone ≡ only t
-    → tables order' next' (size + 1) (join rights alone) ≡ admit_to (pair s t) (tables order next size rights)
-admitted_as order next order' next' size rights alone s t e f g = rw (e, f, g)
+      by : (may : Bool)
+          → (unwrap_or (find (may_pair facts reached t s) us) 64 ≡ fold (finding facts reached t s) 64 us) × (unwrap_or (find (may_pair facts reached t s) us) 64 ≤ 64)
+          → (unwrap_or (cond may (Some u) (find (may_pair facts reached t s) us)) 64 ≡ fold (finding facts reached t s) (pick may u 64) us)
+          × (unwrap_or (cond may (Some u) (find (may_pair facts reached t s) us)) 64 ≤ 64)
+      by true later = (sym (found_kept u us below), omega (arith, below))
+      by false later = later
 
-pub seeds_none : (facts reached : List ℕ) (t : Tables) (s candidates u : ℕ) → u ≡ first_admitted facts reached t s candidates → u ≡ 64 → t ≡ seed_tables facts reached s candidates t
-seeds_none facts reached t s candidates u e none = rw (← e, eq-eqb u 64 none)
+  pub first_found : (candidates : ℕ) → candidates < 2 ^ 64
+      → (unwrap_or (find (may_pair facts reached t s) (members candidates)) 64 ≡ first_admitted facts reached t s candidates)
+      × (unwrap_or (find (may_pair facts reached t s) (members candidates)) 64 ≤ 64)
+  first_found candidates fits =
+      let found = found_first (members candidates) (members_below candidates fits) in
+      (found.0 ∙ sym (walk_fold candidates (λ u found. finding facts reached t s found u) 64), found.1)
 
-pub seeds_one : (facts reached : List ℕ) (t : Tables) (s candidates u : ℕ) → u ≡ first_admitted facts reached t s candidates → (u ≡ 64 → ⊥)
-    → admit_to (pair s u) t ≡ seed_tables facts reached s candidates t
-seeds_one facts reached t s candidates u e some = rw (← e, ne_eqb u 64 some)
-
--- before the first statement all remains
-pub seeding_all : (ss : List Statement) (n : ℕ) (facts reached numbers writers lefts rights : List ℕ) (t : Tables)
-    → seeded_tables ss n facts reached numbers writers lefts rights t
-    ≡ count (n - 0) 0 (λ s. seed_tables facts reached s (neighbours_of (statement ss s) numbers writers lefts rights)) t
+-- the tables before the first statement, and with one statement more
+pub seeded_none : (ss : List Statement) (facts reached numbers writers lefts rights : List ℕ) (t : Tables)
+    → seeded_tables ss 0 facts reached numbers writers lefts rights t ≡ t
 unfolding seeded_tables
-seeding_all ss n facts reached numbers writers lefts rights t = rw sub-zero
+seeded_none ss facts reached numbers writers lefts rights t = refl
+
+pub seeded_more : (ss : List Statement) (n : ℕ) (facts reached numbers writers lefts rights : List ℕ) (t : Tables)
+    → seeded_tables ss (n + 1) facts reached numbers writers lefts rights t
+    ≡ seed_tables facts reached n (neighbours_of (statement ss n) numbers writers lefts rights) (seeded_tables ss n facts reached numbers writers lefts rights t)
+unfolding seeded_tables
+seeded_more ss n facts reached numbers writers lefts rights t =
+    one_more (λ s. seed_tables facts reached s (neighbours_of (statement ss s) numbers writers lefts rights)) n t

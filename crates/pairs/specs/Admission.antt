@@ -12,6 +12,7 @@ use Rattle.codes.specs.Codes.{place_code, operand_code, is_cell_code}
 use Rattle.facts.specs.Facts.{fact_at}
 use Rattle.facts.specs.Places.{naming}
 use Rattle.reach.specs.Rows.{no_path}
+use Rattle.pairs.specs.declared.Admitted.{Admitted}
 
 -- those that are left in a pair, in order of admission; for each of them the one that is right in it, else 64; how many pairs; all that are right in one
 pub record Tables : Type 0 where
@@ -22,6 +23,10 @@ pub record Tables : Type 0 where
 
 abbrev pub tables : List ℕ → List ℕ → ℕ → ℕ → Tables
 tables order next size rights = record { order = order; next = next; size = size; rights = rights }
+
+-- and as the code has them
+abbrev pub admitted_tables : Admitted → Tables
+admitted_tables a = tables a.order a.next a.count a.rights
 
 abbrev pub empty : Tables
 empty = record { order = replicate 64 64; next = replicate 64 64; size = 0; rights = nobody }

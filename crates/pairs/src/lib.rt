@@ -1,22 +1,13 @@
 // "Pairs": the admitted pairs, and what may be admitted to them; and "Seeding", the first of them.
-//
-// `next` has for each statement that is left in a pair the one that is right in it, else NONE;
-// `order` has the statements that are left in one, in order of admission.
 
 #![tactic(auto)]
 
-ghost use Rattle.std.specs.Prelude.{◌≡◌, [], ◌+◌, ◌≤◌, ◌<◌};
+ghost use Rattle.std.specs.Prelude.{◌≡◌, ◌+◌, ◌≤◌, ◌<◌, length};
 ghost use Rattle.meaning.specs.Pairs.{pair};
-ghost use Rattle.pairs.specs.Admission.{tables, admitted_in, admit_to, leads_to, may_join, may_pair, first_admitted, cells_above, neighbours_of, seed_tables, seeded_tables};
+ghost use Rattle.pairs.specs.Admission.{admitted_tables, empty, admitted_in, admit_to, leads_to, may_join, may_pair, first_admitted, cells_above, neighbours_of, seed_tables, seeded_tables};
 
-use meaning::{Block, Statement};
-
-// How many pairs there are, and which statements are right in one.
-#[derive(Clone, Copy)]
-pub struct Admitted {
-    pub count: usize,
-    pub rights: u64,
-}
+use facts::Tables;
+use meaning::Statement;
 
 // A pair (s, t).
 #[derive(Clone, Copy)]
@@ -25,185 +16,141 @@ pub struct Pair {
     pub right: usize,
 }
 
-// A chain of admitted pairs leads from one statement to another.
-fn leads(next: &[u8], from: usize, to: usize, count: usize) -> bool
-    ensures { result ≡ leads_to count next.now from to }
-{
-    let mut at = from;
-    let mut i: usize = 0;
-    while i < count {
-        at = rows::number_at(next, at);
-        if at == to {
-            return true;
-        }
-        if at == rows::NONE {
-            return false;
-        }
-        i += 1;
-    }
-    false
+// The admitted pairs: the statements that are left in one, in order of admission; for each of these the one that is right
+// in it, else NONE; how many pairs there are; and which statements are right in one.
+#[derive(Clone, Copy)]
+pub struct Admitted {
+    pub order: [u8; 64],
+    pub next: [u8; 64],
+    pub count: usize,
+    pub rights: u64,
 }
 
-// "s is not yet left in a pair; t is not yet right in one; no chain of admitted pairs leads from t
-// back to s"
-fn may_join(next: &[u8], admitted: Admitted, s: usize, t: usize) -> bool
-    ensures { result ≡ may_join (tables [] next.now admitted.count admitted.rights) s t }
-{
-    if rows::number_at(next, s) != rows::NONE {
-        return false;
+impl Admitted {
+    // No pairs yet.
+    pub fn none() -> Admitted
+        ensures { admitted_tables result ≡ empty }
+    {
+        Admitted {
+            order: [rows::NONE as u8; 64],
+            next: [rows::NONE as u8; 64],
+            count: 0,
+            rights: 0,
+        }
     }
-    if rows::has(admitted.rights, t) {
-        return false;
-    }
-    if leads(next, t, s, admitted.count) {
-        false
-    } else {
-        true
-    }
-}
 
-pub fn may_be_admitted(
-    facts: &[u64],
-    reached: &[u64],
-    next: &[u8],
-    admitted: Admitted,
-    s: usize,
-    t: usize,
-) -> bool
-    ensures { result ≡ may_pair facts.now reached.now (tables [] next.now admitted.count admitted.rights) s t }
-{
-    if facts::fact(facts, facts::SORT, s) != facts::fact(facts, facts::SORT, t) {
-        return false;
-    }
-    if reach::independent(reached, s, t) {
-        may_join(next, admitted, s, t)
-    } else {
+    // A chain of admitted pairs leads from one statement to another.
+    fn leads(&self, from: usize, to: usize) -> bool
+        ensures { result ≡ leads_to self.now.count self.now.next from to }
+    {
+        let mut at = from;
+        // i is not read: it has a name for the invariant, which says how far the chain was followed
+        for i in 0..self.count {
+            at = rows::number_at(&self.next, at);
+            if at == to {
+                return true;
+            }
+            if at == rows::NONE {
+                return false;
+            }
+        }
         false
     }
-}
 
-pub fn is_admitted(next: &[u8], s: usize, t: usize) -> bool
-    ensures { result ≡ admitted_in next.now s t }
-{
-    if s < rows::NONE {
-        if t < rows::NONE {
-            return rows::number_at(next, s) == t;
-        }
+    // "s is not yet left in a pair; t is not yet right in one; no chain of admitted pairs leads from t
+    // back to s"
+    fn may_join(&self, s: usize, t: usize) -> bool
+        ensures { result ≡ may_join (admitted_tables self.now) s t }
+    {
+        rows::number_at(&self.next, s) == rows::NONE
+            && !rows::has(self.rights, t)
+            && !self.leads(t, s)
     }
-    false
-}
 
-// "added pairs at the end"
-pub fn admit(order: &mut [u8], next: &mut [u8], admitted: Admitted, s: usize, t: usize) -> Admitted
-    requires { (admitted.count ≤ 1000) × ((s < 64) × (t < 64)) }
-    ensures { (tables order.new next.new result.count result.rights
-        ≡ admit_to (pair s t) (tables order.old next.old admitted.count admitted.rights))
-        × (result.count ≤ admitted.count + 1) }
-{
-    rows::set_byte(order, admitted.count, s as u8);
-    rows::set_byte(next, s, t as u8);
-    Admitted {
-        count: admitted.count + 1,
-        rights: admitted.rights | rows::only(t),
+    pub fn may_admit(&self, tables: &Tables, reached: &[u64], s: usize, t: usize) -> bool
+        ensures { result ≡ may_pair tables.now.facts reached.now (admitted_tables self.now) s t }
+    {
+        tables.fact(facts::SORT, s) == tables.fact(facts::SORT, t)
+            && reach::independent(reached, s, t)
+            && self.may_join(s, t)
+    }
+
+    pub fn has(&self, s: usize, t: usize) -> bool
+        ensures { result ≡ admitted_in self.now.next s t }
+    {
+        s < rows::NONE && t < rows::NONE && rows::number_at(&self.next, s) == t
+    }
+
+    // "added pairs at the end"
+    pub fn admit(&mut self, s: usize, t: usize)
+        requires room { self.old.count ≤ 1000 }
+        requires left { s < 64 }
+        requires right { t < 64 }
+        ensures admitted { admitted_tables self.new ≡ admit_to (pair s t) (admitted_tables self.old) }
+        ensures counted { self.new.count ≤ self.old.count + 1 }
+    {
+        slices::put(&mut self.order, self.count, s as u8);
+        slices::put(&mut self.next, s, t as u8);
+        self.count += 1;
+        self.rights |= rows::only(t);
+    }
+
+    // Once (s, t) is admitted s is left in a pair, so only the first t can be.
+    fn first_admitted(&self, tables: &Tables, reached: &[u64], s: usize, candidates: u64) -> usize
+        ensures first { result ≡ first_admitted tables.now.facts reached.now (admitted_tables self.now) s candidates }
+        ensures at_most_none { result ≤ 64 }
+    {
+        rows::members(candidates)
+            .find(|t| self.may_admit(tables, reached, s, *t))
+            .unwrap_or(rows::NONE)
+    }
+
+    fn seed_one(&mut self, tables: &Tables, reached: &[u64], s: usize, candidates: u64)
+        requires room { self.old.count ≤ 1000 }
+        requires left { s < 64 }
+        ensures seeded { admitted_tables self.new
+            ≡ seed_tables tables.now.facts reached.now s candidates (admitted_tables self.old) }
+        ensures counted { self.new.count ≤ self.old.count + 1 }
+    {
+        let t = self.first_admitted(tables, reached, s, candidates);
+        if t != rows::NONE {
+            self.admit(s, t);
+        }
     }
 }
 
 // The statements that have in this position a cell of the same array, one above the one that the
 // code stands for.
-fn above(numbers: &[u8], named: &[u64], code: u64) -> u64
-    ensures { result ≡ cells_above numbers.now named.now code }
+fn above(tables: &Tables, named: &[u64], code: u64) -> u64
+    ensures { result ≡ cells_above tables.now.numbers named.now code }
 {
     if codes::is_cell(code) {
-        return facts::naming(numbers, named, code + 1);
+        facts::naming(&tables.numbers, named, code + 1)
+    } else {
+        0
     }
-    0
 }
 
 // And "in some position (destination, left, right)".
-fn neighbours(s: Statement, numbers: &[u8], writers: &[u64], lefts: &[u64], rights: &[u64]) -> u64
-    ensures { result ≡ neighbours_of s numbers.now writers.now lefts.now rights.now }
+fn neighbours(s: Statement, tables: &Tables) -> u64
+    ensures { result ≡ neighbours_of s tables.now.numbers tables.now.writers tables.now.lefts tables.now.rights }
 {
-    let destination = s.destination;
-    let left = s.left;
-    let right = s.right;
-    let d = above(numbers, writers, codes::place_code(destination));
-    let l = above(numbers, lefts, codes::operand_code(left));
-    let r = above(numbers, rights, codes::operand_code(right));
-    d | l | r
+    above(tables, &tables.writers, codes::place_code(s.destination))
+        | above(tables, &tables.lefts, codes::operand_code(s.left))
+        | above(tables, &tables.rights, codes::operand_code(s.right))
 }
 
-// Once (s, t) is admitted s is left in a pair, so only the first t can be.
-fn first_admitted(
-    facts: &[u64],
-    reached: &[u64],
-    next: &[u8],
-    admitted: Admitted,
-    s: usize,
-    candidates: u64,
-) -> usize
-    ensures { (result ≡ first_admitted facts.now reached.now (tables [] next.now admitted.count admitted.rights) s candidates)
-        × (result ≤ 64) }
+#[tactic(auto, using(crate::proofs::Steps::seeded_none, crate::proofs::Steps::seeded_more))]
+pub fn seed(statements: &[Statement], tables: &Tables, reached: [u64; 64]) -> Admitted
+    requires { length statements.now ≤ 64 }
+    ensures seeded { admitted_tables result
+        ≡ seeded_tables statements.now (length statements.now) tables.now.facts reached
+        tables.now.numbers tables.now.writers tables.now.lefts tables.now.rights empty }
+    ensures counted { result.count ≤ length statements.now }
 {
-    let mut rest = candidates;
-    while rest != 0 {
-        let t = rows::first(rest);
-        if may_be_admitted(facts, reached, next, admitted, s, t) {
-            return t;
-        }
-        rest = rows::behind_first(rest);
-    }
-    rows::NONE
-}
-
-fn seed_one(
-    facts: &[u64],
-    reached: &[u64],
-    order: &mut [u8],
-    next: &mut [u8],
-    admitted: Admitted,
-    s: usize,
-    candidates: u64,
-) -> Admitted
-    requires { (admitted.count ≤ 1000) × (s < 64) }
-    ensures { (tables order.new next.new result.count result.rights
-        ≡ seed_tables facts.now reached.now s candidates (tables order.old next.old admitted.count admitted.rights))
-        × (result.count ≤ admitted.count + 1) }
-{
-    let t = first_admitted(facts, reached, next, admitted, s, candidates);
-    if t == rows::NONE {
-        return admitted;
-    }
-    admit(order, next, admitted, s, t)
-}
-
-pub fn seed(
-    block: Block,
-    n: usize,
-    facts: &[u64],
-    reached: [u64; 64],
-    numbers: &[u8],
-    writers: &[u64],
-    lefts: &[u64],
-    rights: &[u64],
-    order: &mut [u8],
-    next: &mut [u8],
-) -> Admitted
-    requires { n ≤ 64 }
-    ensures { (tables order.new next.new result.count result.rights
-        ≡ seeded_tables block.statements n facts.now reached numbers.now writers.now lefts.now rights.now
-        (tables order.old next.old 0 0))
-        × (result.count ≤ n) }
-{
-    let mut admitted = Admitted {
-        count: 0,
-        rights: 0,
-    };
-    let mut i: usize = 0;
-    while i < n {
-        let s = block.statements[i];
-        let candidates = neighbours(s, numbers, writers, lefts, rights);
-        admitted = seed_one(facts, &reached, order, next, admitted, i, candidates);
-        i += 1;
+    let mut admitted = Admitted::none();
+    for (i, s) in statements.iter().enumerate() {
+        admitted.seed_one(tables, &reached, i, neighbours(*s, tables));
     }
     admitted
 }

@@ -1,78 +1,54 @@
--- What the loops and calls lean on: before the first number of a loop all remains, and one turn from what its calls leave.
-use mathlib.Core.Path.{◌≡◌, sym, ap, ap₂, ◌∙◌}
+-- Rows and columns before their first statement, and with one statement more.
+use mathlib.Core.Path.{◌≡◌, refl}
 use mathlib.Core.List.{List}
-use Prim.Native.Nat.{ℕ, ◌+◌, ◌-◌, ◌^◌}
-use native.Mathlib.Nat.{sub-zero}
-use lib.Bits.{bit_and}
+use Prim.Native.Nat.{ℕ, ◌+◌}
 use lib.ListN.{get_or, set, replicate}
-use Rattle.basics.specs.Counting.{count}
+use Rattle.std.specs.List.{fold}
+use Rattle.rows.specs.Walk.{members}
+use Rattle.rows.proofs.Walks.{walk_fold}
+use Rattle.facts.proofs.Steps.{one_more}
 use Rattle.basics.specs.Sets.{join}
 use Rattle.meaning.specs.declared.Statement.{Statement}
 use Rattle.meaning.specs.Block.{statement}
-use Rattle.codes.specs.Codes.{place_code, operand_code}
-use Rattle.facts.specs.Facts.{fact_at}
-use Rattle.facts.specs.Places.{naming}
-use Rattle.reach.specs.Rows.{direct_row, direct_rows, reached_from, reached_rows, last_definition, define_operands, with_definitions, add_reader, add_readers, with_readers}
+use Rattle.reach.specs.Rows.{direct_row, direct_rows, reached_from, reached_rows, define_operands, with_definitions, add_readers, with_readers}
 
-pub direct_start : (ss : List Statement) (n : ℕ) (numbers writers lefts rights : List ℕ)
-    → direct_rows ss n numbers writers lefts rights
-    ≡ count (n - 0) 0 (λ i rows. set rows i (direct_row (statement ss i) i numbers writers lefts rights)) (replicate 64 0)
+pub direct_none : (ss : List Statement) (numbers writers lefts rights : List ℕ) → direct_rows ss 0 numbers writers lefts rights ≡ replicate 64 0
 unfolding direct_rows
-direct_start ss n numbers writers lefts rights = rw sub-zero
+direct_none ss numbers writers lefts rights = refl
 
-pub reached_start : (direct : List ℕ) (n : ℕ)
-    → reached_rows direct n ≡ count (n - 0) 0 (λ i reached. set reached i (reached_from (get_or direct i 0) reached)) (replicate 64 0)
+pub direct_more : (ss : List Statement) (n : ℕ) (numbers writers lefts rights : List ℕ)
+    → direct_rows ss (n + 1) numbers writers lefts rights
+    ≡ set (direct_rows ss n numbers writers lefts rights) n (direct_row (statement ss n) n numbers writers lefts rights)
+unfolding direct_rows
+direct_more ss n numbers writers lefts rights = one_more (λ i rows. set rows i (direct_row (statement ss i) i numbers writers lefts rights)) n (replicate 64 0)
+
+pub reached_none : (direct : List ℕ) → reached_rows direct 0 ≡ replicate 64 0
 unfolding reached_rows
-reached_start direct n = rw sub-zero
+reached_none direct = refl
 
-pub definitions_start : (n : ℕ) (numbers writers facts : List ℕ)
-    → with_definitions n numbers writers facts ≡ count (n - 0) 0 (define_operands numbers writers) facts
+pub reached_more : (direct : List ℕ) (n : ℕ)
+    → reached_rows direct (n + 1) ≡ set (reached_rows direct n) n (reached_from (get_or direct n 0) (reached_rows direct n))
+unfolding reached_rows
+reached_more direct n = one_more (λ i reached. set reached i (reached_from (get_or direct i 0) reached)) n (replicate 64 0)
+
+pub defined_none : (numbers writers facts : List ℕ) → with_definitions 0 numbers writers facts ≡ facts
 unfolding with_definitions
-definitions_start n numbers writers facts = rw sub-zero
+defined_none numbers writers facts = refl
 
-pub readers_start : (n : ℕ) (facts : List ℕ) → with_readers n facts ≡ count (n - 0) 0 add_readers facts
+pub defined_more : (n : ℕ) (numbers writers facts : List ℕ)
+    → with_definitions (n + 1) numbers writers facts ≡ define_operands numbers writers n (with_definitions n numbers writers facts)
+unfolding with_definitions
+defined_more n numbers writers facts = one_more (define_operands numbers writers) n facts
+
+pub read_none : (facts : List ℕ) → with_readers 0 facts ≡ facts
 unfolding with_readers
-readers_start n facts = rw sub-zero
+read_none facts = refl
 
--- the row of one statement, from words that are known to be its parts
-pub row_of : (s : Statement) (i : ℕ) (numbers writers lefts rights : List ℕ) (d l r write-left write-right read_left read_right write below : ℕ)
-    → d ≡ place_code s.destination
-    → l ≡ operand_code s.left
-    → r ≡ operand_code s.right
-    → write-left ≡ naming numbers writers l
-    → write-right ≡ naming numbers writers r
-    → read_left ≡ naming numbers lefts d
-    → read_right ≡ naming numbers rights d
-    → write ≡ naming numbers writers d
-    → below ≡ 2 ^ i - 1
-    → bit_and (join (join write-left write-right) (join (join read_left read_right) write)) below ≡ direct_row s i numbers writers lefts rights
-row_of s i numbers writers lefts rights d l r write-left write-right read_left read_right write below ed el er ewl ewr erl err ew eb =
-    ap₂ bit_and
-    (ap₂ join
-    (ap₂ join (ewl ∙ ap (naming numbers writers) el) (ewr ∙ ap (naming numbers writers) er))
-    (ap₂ join (ap₂ join (erl ∙ ap (naming numbers lefts) ed) (err ∙ ap (naming numbers rights) ed)) (ew ∙ ap (naming numbers writers) ed)))
-    eb
+pub read_more : (n : ℕ) (facts : List ℕ) → with_readers (n + 1) facts ≡ add_readers n (with_readers n facts)
+unfolding with_readers
+read_more n facts = one_more add_readers n facts
 
--- one turn of a loop, from what its calls leave
-pub one_defined : (numbers writers facts mid after : List ℕ) (i left-code right-code left right : ℕ)
-    → left-code ≡ fact_at facts 64 i
-    → left ≡ last_definition left-code i numbers writers
-    → right-code ≡ fact_at facts 128 i
-    → right ≡ last_definition right-code i numbers writers
-    → mid ≡ set facts (320 + i) left
-    → after ≡ set mid (384 + i) right
-    → define_operands numbers writers i facts ≡ after
-one_defined numbers writers facts mid after i left-code right-code left right elc el erc er em ea =
-    let left_is : left ≡ last_definition (fact_at facts 64 i) i numbers writers = el ∙ ap (λ (code : ℕ). last_definition code i numbers writers) elc in
-    let right_is : right ≡ last_definition (fact_at facts 128 i) i numbers writers = er ∙ ap (λ (code : ℕ). last_definition code i numbers writers) erc in
-    sym (ea ∙ ap₂ (λ (l : List ℕ) (d : ℕ). set l (384 + i) d) (em ∙ ap (λ (d : ℕ). set facts (320 + i) d) left_is) right_is)
-
-pub one_read : (facts mid after : List ℕ) (i left right : ℕ)
-    → left ≡ fact_at facts 320 i
-    → mid ≡ add_reader left i facts
-    → right ≡ fact_at mid 384 i
-    → after ≡ add_reader right i mid
-    → add_readers i facts ≡ after
-one_read facts mid after i left right el em er ea =
-    let mid-is : mid ≡ add_reader (fact_at facts 320 i) i facts = em ∙ ap (λ (d : ℕ). add_reader d i facts) el in
-    sym (ea ∙ ap₂ (λ (d : ℕ) (l : List ℕ). add_reader d i l) (er ∙ ap (λ (l : List ℕ). fact_at l 384 i) mid-is) mid-is)
+-- what paths lead to, as a fold over the members
+pub reached_fold : (direct : ℕ) (reached : List ℕ)
+    → reached_from direct reached ≡ fold (λ row e. join row (get_or reached e 0)) direct (members direct)
+reached_fold direct reached = walk_fold direct (λ e row. join row (get_or reached e 0)) direct

@@ -1,5 +1,5 @@
 -- What each statement depends on, all that paths lead to, last definitions and readers, read from the tables of places.
-use Rattle.std.specs.Prelude.{ℕ, ◌+◌, ◌-◌, ◌^◌, List, Bool, ◌&&◌, not, eqb, ltb, get_or, set, replicate}
+use Rattle.std.specs.Prelude.{ℕ, ◌+◌, ◌-◌, ◌^◌, List, Bool, ◌&&◌, not, eqb, ltb, length, get_or, set, replicate}
 use Rattle.std.specs.Int.Bits.{bit_and}
 use Rattle.basics.specs.Choice.{pick}
 use Rattle.basics.specs.Counting.{count}
@@ -8,7 +8,9 @@ use Rattle.meaning.specs.declared.Statement.{Statement}
 use Rattle.meaning.specs.Block.{statement}
 use Rattle.rows.specs.Walk.{walk, highest}
 use Rattle.codes.specs.Codes.{place_code, operand_code, is_variable_code}
+use Rattle.facts.specs.declared.Tables.{Tables}
 use Rattle.facts.specs.Facts.{fact_at}
+use Rattle.facts.specs.Filled.{with_facts, with_places}
 use Rattle.facts.specs.Places.{naming}
 
 -- what a statement depends on: of those before it, the ones that write what it reads, read what it writes, or write the same place
@@ -60,3 +62,14 @@ add_readers i facts =
 
 unfoldable pub with_readers : ℕ → List ℕ → List ℕ
 with_readers n facts = count n 0 add_readers facts
+
+-- the tables with those columns filled, the rest of them as it was
+abbrev pub tables_with_definitions : ℕ → Tables → Tables
+tables_with_definitions n t = record t { facts = with_definitions n t.numbers t.writers t.facts }
+
+abbrev pub tables_with_readers : ℕ → Tables → Tables
+tables_with_readers n t = record t { facts = with_readers n t.facts }
+
+-- all that is filled in from the statements, one after the other
+abbrev pub filled_tables : List Statement → Tables → Tables
+filled_tables ss t = tables_with_readers (length ss) (tables_with_definitions (length ss) (with_places (length ss) (with_facts ss t)))

@@ -3,53 +3,34 @@
 
 #![tactic(auto)]
 
-ghost use Rattle.std.specs.Prelude.{◌≡◌, ◌≤◌, ◌<◌};
-ghost use Rattle.reach.specs.Rows.{direct_row, direct_rows, reached_from, reached_rows, no_path, last_definition, with_definitions, add_reader, with_readers};
+ghost use Rattle.std.specs.Prelude.{◌≡◌, ◌≤◌, ◌<◌, length};
+ghost use Rattle.reach.specs.Rows.{direct_row, direct_rows, reached_from, reached_rows, no_path, last_definition, tables_with_definitions, add_reader, tables_with_readers};
 
-use meaning::{Block, Statement};
+use facts::Tables;
+use meaning::Statement;
 
 // "A later statement depends on an earlier one if it reads what that one writes, writes what that
 // one reads, or writes the same place."
-fn depends_on(
-    s: Statement,
-    i: usize,
-    numbers: &[u8],
-    writers: &[u64],
-    lefts: &[u64],
-    rights: &[u64],
-) -> u64
+fn depends_on(s: Statement, i: usize, tables: &Tables) -> u64
     requires { i < 64 }
-    ensures { result ≡ direct_row s i numbers.now writers.now lefts.now rights.now }
+    ensures { result ≡ direct_row s i tables.now.numbers tables.now.writers tables.now.lefts tables.now.rights }
 {
-    let destination = s.destination;
-    let left = s.left;
-    let right = s.right;
-    let d = codes::place_code(destination);
-    let read = facts::naming(numbers, writers, codes::operand_code(left))
-        | facts::naming(numbers, writers, codes::operand_code(right));
-    let written = facts::naming(numbers, lefts, d)
-        | facts::naming(numbers, rights, d)
-        | facts::naming(numbers, writers, d);
+    let d = codes::place_code(s.destination);
+    let read = tables.writing(codes::operand_code(s.left))
+        | tables.writing(codes::operand_code(s.right));
+    let written = tables.reading_left(d) | tables.reading_right(d) | tables.writing(d);
     (read | written) & rows::below(i)
 }
 
-pub fn dependences(
-    block: Block,
-    n: usize,
-    numbers: &[u8],
-    writers: &[u64],
-    lefts: &[u64],
-    rights: &[u64],
-) -> [u64; 64]
-    requires { n ≤ 64 }
-    ensures { result ≡ direct_rows block.statements n numbers.now writers.now lefts.now rights.now }
+#[tactic(auto, using(crate::proofs::Steps::direct_none, crate::proofs::Steps::direct_more))]
+pub fn dependences(statements: &[Statement], tables: &Tables) -> [u64; 64]
+    requires { length statements.now ≤ 64 }
+    ensures { result ≡ direct_rows statements.now (length statements.now)
+        tables.now.numbers tables.now.writers tables.now.lefts tables.now.rights }
 {
     let mut direct = [0u64; 64];
-    let mut i: usize = 0;
-    while i < n {
-        let s = block.statements[i];
-        direct[i] = depends_on(s, i, numbers, writers, lefts, rights);
-        i += 1;
+    for (i, s) in statements.iter().enumerate() {
+        direct[i] = depends_on(*s, i, tables);
     }
     direct
 }
@@ -58,25 +39,17 @@ pub fn dependences(
 fn reached_by(direct: u64, reached: &[u64]) -> u64
     ensures { result ≡ reached_from direct reached.now }
 {
-    let mut row = direct;
-    let mut rest = direct;
-    while rest != 0 {
-        row = row | rows::word_at(reached, rows::first(rest));
-        rest = rows::behind_first(rest);
-    }
-    row
+    rows::members(direct).fold(direct, |row, t| row | slices::at_or(reached, t, 0))
 }
 
+#[tactic(auto, using(crate::proofs::Steps::reached_none, crate::proofs::Steps::reached_more))]
 pub fn reachability(direct: &[u64], n: usize) -> [u64; 64]
     requires { n ≤ 64 }
     ensures { result ≡ reached_rows direct.now n }
 {
     let mut reached = [0u64; 64];
-    let mut i: usize = 0;
-    while i < n {
-        let row = reached_by(rows::word_at(direct, i), &reached);
-        reached[i] = row;
-        i += 1;
+    for i in 0..n {
+        reached[i] = reached_by(slices::at_or(direct, i, 0), &reached);
     }
     reached
 }
@@ -85,40 +58,33 @@ pub fn reachability(direct: &[u64], n: usize) -> [u64; 64]
 pub fn independent(reached: &[u64], s: usize, t: usize) -> bool
     ensures { result ≡ no_path reached.now s t }
 {
-    if s == t {
-        return false;
-    }
-    if rows::has(rows::word_at(reached, s), t) {
-        return false;
-    }
-    if rows::has(rows::word_at(reached, t), s) {
-        return false;
-    }
-    true
+    s != t
+        && !rows::has(slices::at_or(reached, s, 0), t)
+        && !rows::has(slices::at_or(reached, t, 0), s)
 }
 
 // The last definition of an operand before its reader, where that is a variable and has one.
-fn definition(code: u64, reader: usize, numbers: &[u8], writers: &[u64]) -> usize
+fn definition(code: u64, reader: usize, tables: &Tables) -> usize
     requires { reader < 64 }
-    ensures { result ≡ last_definition code reader numbers.now writers.now }
+    ensures { result ≡ last_definition code reader tables.now.numbers tables.now.writers }
 {
     if codes::is_variable(code) {
-        return rows::last(facts::naming(numbers, writers, code) & rows::below(reader));
+        rows::last(tables.writing(code) & rows::below(reader))
+    } else {
+        rows::NONE
     }
-    rows::NONE
 }
 
-pub fn fill_definitions(facts: &mut [u64], n: usize, numbers: &[u8], writers: &[u64])
+#[tactic(auto, using(crate::proofs::Steps::defined_none, crate::proofs::Steps::defined_more))]
+pub fn fill_definitions(tables: &mut Tables, n: usize)
     requires { n ≤ 64 }
-    ensures { facts.new ≡ with_definitions n numbers.now writers.now facts.old }
+    ensures { tables.new ≡ tables_with_definitions n tables.old }
 {
-    let mut i: usize = 0;
-    while i < n {
-        let l = definition(facts::fact(facts, facts::LEFT, i), i, numbers, writers);
-        let r = definition(facts::fact(facts, facts::RIGHT, i), i, numbers, writers);
-        rows::set_word(facts, facts::LEFT_DEFINITION + i, l as u64);
-        rows::set_word(facts, facts::RIGHT_DEFINITION + i, r as u64);
-        i += 1;
+    for i in 0..n {
+        let l = definition(tables.fact(facts::LEFT, i), i, tables);
+        let r = definition(tables.fact(facts::RIGHT, i), i, tables);
+        slices::put(&mut tables.facts, facts::LEFT_DEFINITION + i, l as u64);
+        slices::put(&mut tables.facts, facts::RIGHT_DEFINITION + i, r as u64);
     }
 }
 
@@ -132,14 +98,15 @@ fn add_reader(facts: &mut [u64], defined: u64, reader: usize)
 }
 
 // The readers of each statement's result: "the reader's last definition is that statement".
-pub fn fill_readers(facts: &mut [u64], n: usize)
+#[tactic(auto, using(crate::proofs::Steps::read_none, crate::proofs::Steps::read_more))]
+pub fn fill_readers(tables: &mut Tables, n: usize)
     requires { n ≤ 64 }
-    ensures { facts.new ≡ with_readers n facts.old }
+    ensures { tables.new ≡ tables_with_readers n tables.old }
 {
-    let mut i: usize = 0;
-    while i < n {
-        add_reader(facts, facts::fact(facts, facts::LEFT_DEFINITION, i), i);
-        add_reader(facts, facts::fact(facts, facts::RIGHT_DEFINITION, i), i);
-        i += 1;
+    for i in 0..n {
+        let left = tables.fact(facts::LEFT_DEFINITION, i);
+        add_reader(&mut tables.facts, left, i);
+        let right = tables.fact(facts::RIGHT_DEFINITION, i);
+        add_reader(&mut tables.facts, right, i);
     }
 }

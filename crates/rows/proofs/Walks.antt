@@ -2,20 +2,23 @@
 use mathlib.Core.Path.{◌≡◌, refl, sym, ap, ◌∙◌}
 use mathlib.Core.Logic.{◌⊎◌, inl, inr}
 use mathlib.Core.Bool.{Bool, true, false, ◌&&◌, not, false≢true, and-true, and-false}
+use mathlib.Core.List.{List, [], ◌∷◌, ◌++◌, append-nil, append_assoc}
 use Prim.Native.Nat.{ℕ, zero, suc, ◌+◌, ◌-◌, ◌*◌, ◌/◌, ◌%◌, ◌^◌, ◌≤◌, ◌<◌}
 use native.Mathlib.Nat.{pow-suc, lt_of_le_of_lt, zero-add}
 use native.Mathlib.Omega.{arith}
+use lib.ListN.{length}
 use lib.Dec.{eqb, ltb, eqb-zero-suc, eqb-suc-zero, eqb-suc-suc}
 use lib.Bits.{and_step, and_self, and_le_l, and_le_r}
 use lib.Count.{count_leading_zeros, count_trailing_zeros, leading_unique}
 use borrow.Author.Tests.{eqb-true, eqb-false, lt-ltb, le-ltb, eq-eqb, ne_eqb}
+use Rattle.std.specs.List.{All, fold}
 use Rattle.basics.specs.Choice.{pick}
 use Rattle.basics.specs.Counting.{count}
 use Rattle.basics.specs.Sets.{nobody, has}
 use Rattle.basics.proofs.Tests.{below_or_not}
 use Rattle.basics.proofs.Counting.{one_further, count_same, count_last}
 use Rattle.basics.proofs.Sets.{has_nobody, has_lowest, has_half, no_one, not_nobody, has_beyond, set_bound}
-use Rattle.rows.specs.Walk.{behind_first, highest, walk}
+use Rattle.rows.specs.Walk.{behind_first, highest, walk, first_members, members}
 
 -- an odd number has its lowest bit, an even one has not
 odd : (s : ℕ) → has s 0 ≡ true → s % 2 ≡ 1
@@ -247,8 +250,67 @@ module _ {ℓ} {A : Type ℓ} where
           (λ j low. none_up_to s i j lowest (omega arith))
           (λ j high. still_none s i j lowest.within lowest.first (has_beyond 64 s j small (omega arith)))
 
+-- a walk is a fold over the members
+walk_fold_first : {A : Type 0} (n s : ℕ) (f : ℕ → A → A) (a : A) → walk n s f a ≡ fold (λ x e. f e x) a (first_members n s)
+unfolding walk first_members
+walk_fold_first zero s f a = refl
+walk_fold_first (suc n) s f a = by (eqb s 0) (walk_fold_first n (behind_first s) f (f (count_trailing_zeros 64 s) a))
+  where
+    -- by what the test for nobody says
+    by : (t : Bool)
+        → walk n (behind_first s) f (f (count_trailing_zeros 64 s) a)
+        ≡ fold (λ x e. f e x) (f (count_trailing_zeros 64 s) a) (first_members n (behind_first s))
+        → elim t [ true ↦ a | false ↦ walk n (behind_first s) f (f (count_trailing_zeros 64 s) a) ]
+        ≡ fold (λ x e. f e x) a (elim t [ true ↦ [] | false ↦ count_trailing_zeros 64 s ∷ first_members n (behind_first s) ])
+    by true behind = refl
+    by false behind = behind
+
+pub walk_fold : {A : Type 0} (s : ℕ) (f : ℕ → A → A) (a : A) → walk 64 s f a ≡ fold (λ x e. f e x) a (members s)
+walk_fold s f a = walk_fold_first 64 s f a
+
+fold_behind : (xs ys : List ℕ) → fold (λ l x. l ++ x ∷ []) ys xs ≡ ys ++ xs
+fold_behind [] ys = sym (append-nil ys)
+fold_behind (x ∷ xs) ys = fold_behind xs (ys ++ x ∷ []) ∙ append_assoc ys (x ∷ []) xs
+
+pub members_of_none : (s : ℕ) → s ≡ nobody → members s ≡ []
+unfolding first_members
+members_of_none s e = rw e
+
+-- the lowest, and then those behind it
+pub members_next : (s : ℕ) → s < 2 ^ 64 → (s ≡ nobody → ⊥) → members s ≡ count_trailing_zeros 64 s ∷ members (behind_first s)
+members_next s small some =
+    sym (fold_behind (members s) []) ∙ sym (walk_fold s behind []) ∙ walk_next s behind [] small some
+    ∙ walk_fold (behind_first s) behind (lowest ∷ []) ∙ fold_behind (members (behind_first s)) (lowest ∷ [])
+  where
+    lowest : ℕ
+    lowest = count_trailing_zeros 64 s
+
+    behind : ℕ → List ℕ → List ℕ
+    behind x l = l ++ x ∷ []
+
+pub members_fewer : (s : ℕ) → s < 2 ^ 64 → (s ≡ nobody → ⊥) → length (members (behind_first s)) < length (members s)
+members_fewer s small some = omega (arith, ap length (members_next s small some))
+
 pub behind_fewer : (s : ℕ) → (s ≡ nobody → ⊥) → behind_first s < s
 behind_fewer s some = omega (arith, and_le_r s (s - 1))
 
 pub behind_small : (k s : ℕ) → s < 2 ^ k → behind_first s < 2 ^ k
 behind_small k s small = lt_of_le_of_lt (and_le_l s (s - 1)) small
+
+-- each member is the number of a statement
+members_small : (n s : ℕ) → s < 2 ^ 64 → All (λ i. i < 64) (first_members n s)
+unfolding first_members
+members_small zero s small = λ k d h. absurd (omega arith)
+members_small (suc n) s small = by (eqb s 0) refl (members_small n (behind_first s) (behind_small 64 s small))
+  where
+    by : (t : Bool) → eqb s 0 ≡ t → All (λ i. i < 64) (first_members n (behind_first s))
+        → All (λ i. i < 64) (elim t [ true ↦ [] | false ↦ count_trailing_zeros 64 s ∷ first_members n (behind_first s) ])
+    by true e rest = λ k d h. absurd (omega arith)
+    by false e rest = at
+      where
+        at : All (λ i. i < 64) (count_trailing_zeros 64 s ∷ first_members n (behind_first s))
+        at zero d h = lowest_below s small e
+        at (suc k) d h = rest k d (omega arith)
+
+pub members_below : (s : ℕ) → s < 2 ^ 64 → All (λ i. i < 64) (members s)
+members_below s small = members_small 64 s small

@@ -3,14 +3,12 @@
 use mathlib.Core.Path.{◌≡◌, refl, sym, ap, ap₂, ◌∙◌}
 use mathlib.Core.List.{List}
 use Prim.Native.Nat.{ℕ, suc, ◌+◌, ◌-◌, ◌≤◌, ◌<◌}
-use native.Mathlib.Nat.{sub-zero}
 use native.Mathlib.Omega.{arith}
 use lib.ListN.{get_or}
 use borrow.Author.Tests.{lt-ltb, le-ltb}
-use borrow.Author.Rules.{rules}
 use Rattle.basics.proofs.Counting.{more, none_left}
 use Rattle.meaning.specs.Pairs.{Pair, pair}
-use Rattle.pairs.specs.Admission.{Tables, tables}
+use Rattle.pairs.specs.Admission.{Tables, admitted_tables}
 use Rattle.extend.specs.Visits.{visit_tables, visit_tables_from}
 use Rattle.extend.proofs.extend.Goals as goal
 
@@ -28,38 +26,33 @@ visits-end : (facts reached : List ℕ) (i : ℕ) (t : Tables) → visit_tables_
 unfolding visit_tables_from
 visits-end facts reached i t = refl
 
-pub loop-i-init : goal.loop-i-init
-loop-i-init c = (rw sub-zero, (omega arith, (search rules, (refl, refl))))
-
-pub returns-then-admitted-i : goal.returns-then-admitted-i
-returns-then-admitted-i c =
-    let t = tables c.loop-i.order c.loop-i.next c.loop-i.admitted.count c.loop-i.admitted.rights in (
-      sym
-          (c.loop-i.invariant.0
-          ∙ ap (λ (k : ℕ). visit_tables_from k c.args.facts.now c.args.reached c.loop-i.i t) (more c.args.n c.loop-i.i c.loop-i-test.true)
-          ∙ visits-done (c.args.n - (c.loop-i.i + 1)) c.args.facts.now c.args.reached c.loop-i.i t c.if-admitted-i.true),
-      search rules,
+pub returns-then-admitted-i-clause-extended : goal.returns-then-admitted-i-clause-extended
+returns-then-admitted-i-clause-extended c =
+    let t = admitted_tables c.loop-i.admitted in
+    sym (
+    c.loop-i.invariant.0
+    ∙ ap (λ (k : ℕ). visit_tables_from k c.args.tables.now.facts c.args.reached c.loop-i.i t) (more c.args.n c.loop-i.i c.loop-i-test.true)
+    ∙ visits-done (c.args.n - (c.loop-i.i + 1)) c.args.tables.now.facts c.args.reached c.loop-i.i t c.if-admitted-i.true
     )
 
 pub loop-i-preserved : goal.loop-i-preserved
 loop-i-preserved c =
-    let t = tables c.loop-i.order c.loop-i.next c.loop-i.admitted.count c.loop-i.admitted.rights in (
+    let t = admitted_tables c.loop-i.admitted in (
       c.loop-i.invariant.0
-          ∙ ap (λ (k : ℕ). visit_tables_from k c.args.facts.now c.args.reached c.loop-i.i t) (more c.args.n c.loop-i.i c.loop-i-test.true)
-          ∙ visits-more (c.args.n - (c.loop-i.i + 1)) c.args.facts.now c.args.reached c.loop-i.i t c.if-admitted-i.false
-          ∙ ap (visit_tables_from (c.args.n - (c.loop-i.i + 1)) c.args.facts.now c.args.reached (c.loop-i.i + 1))
+          ∙ ap (λ (k : ℕ). visit_tables_from k c.args.tables.now.facts c.args.reached c.loop-i.i t) (more c.args.n c.loop-i.i c.loop-i-test.true)
+          ∙ visits-more (c.args.n - (c.loop-i.i + 1)) c.args.tables.now.facts c.args.reached c.loop-i.i t c.if-admitted-i.false
+          ∙ ap (visit_tables_from (c.args.n - (c.loop-i.i + 1)) c.args.tables.now.facts c.args.reached (c.loop-i.i + 1))
           (sym
-          (c.visit-admitted.ensures.0
-          ∙ ap (λ (p : Pair). visit_tables c.args.facts.now c.args.reached p t) (ap₂ pair c.number_at-left.ensures.0 (c.number_at-right.ensures.0 ∙ ap (λ (k : ℕ). get_or c.loop-i.next k 64) c.number_at-left.ensures.0)))),
-      search rules,
+          (c.visit.ensures.visited
+          ∙ ap (λ (p : Pair). visit_tables c.args.tables.now.facts c.args.reached p t) (ap₂ pair c.number_at-left.ensures.0 (c.number_at-right.ensures.0 ∙ ap (λ (k : ℕ). get_or c.loop-i.admitted.next k 64) c.number_at-left.ensures.0)))),
+      omega (arith, c.loop-i.invariant.1, c.visit.ensures.counted),
     )
 
-pub returns : goal.returns
-returns c =
-    let t = tables c.loop-i.order c.loop-i.next c.loop-i.admitted.count c.loop-i.admitted.rights in (
-      sym
-          (c.loop-i.invariant.0
-          ∙ ap (λ (k : ℕ). visit_tables_from k c.args.facts.now c.args.reached c.loop-i.i t) (none_left c.args.n c.loop-i.i c.loop-i-test.false)
-          ∙ visits-end c.args.facts.now c.args.reached c.loop-i.i t),
-      search rules,
+pub returns-after-loop-i-clause-extended : goal.returns-after-loop-i-clause-extended
+returns-after-loop-i-clause-extended c =
+    let t = admitted_tables c.loop-i.admitted in
+    sym (
+    c.loop-i.invariant.0
+    ∙ ap (λ (k : ℕ). visit_tables_from k c.args.tables.now.facts c.args.reached c.loop-i.i t) (none_left c.args.n c.loop-i.i c.loop-i-test.false)
+    ∙ visits-end c.args.tables.now.facts c.args.reached c.loop-i.i t
     )

@@ -1,15 +1,11 @@
--- What holds at each turn of the loops of `extend::extend`.
+-- What holds at each turn of the loop of `extend::extend`.
 use mathlib.Core.Path.{◌≡◌}
 use Prim.Native.Nat.{◌+◌, ◌-◌, ◌*◌, ◌≤◌}
-use lib.ListN.{length}
-use Rattle.pairs.specs.Admission.{tables}
+use Rattle.pairs.specs.Admission.{admitted_tables}
 use Rattle.extend.specs.Visits.{visit_tables_from}
 use Rattle.extend.proofs.extend.Given as goal
 
 abbrev pub invariant-loop-i : goal.invariant-loop-i
-invariant-loop-i l = (visit_tables_from l.n l.facts l.reached 0 (tables l.fn.order l.fn.next l.initial.admitted.count l.initial.admitted.rights)
-    ≡ visit_tables_from (l.n - l.i) l.facts l.reached l.i (tables l.order l.next l.admitted.count l.admitted.rights))
-    × ((l.i ≤ l.n) × ((l.admitted.count ≤ 64 + 3 * l.i) × ((length l.order ≡ length l.fn.order) × (length l.next ≡ length l.fn.next))))
-
-abbrev pub decreases-loop-i : goal.decreases-loop-i
-decreases-loop-i l = l.n - l.i
+invariant-loop-i l = (visit_tables_from l.n l.tables.facts l.reached 0 (admitted_tables l.fn.admitted)
+    ≡ visit_tables_from (l.n - l.i) l.tables.facts l.reached l.i (admitted_tables l.admitted))
+    × (l.admitted.count ≤ 64 + 3 * l.i)
