@@ -63,10 +63,7 @@ module _ (reached direct next : List ℕ) where
       ])
       (ne_eqb at 64 differ)
 
-  -- what remains of n turns at i: all, one turn less, none
-  pub cut_start : (n at : ℕ) (t : Tables) → cut_along n reached direct next at t ≡ cut_along (n - 0) reached direct next at t
-  cut_start n at t = rw (sub-zero n)
-
+  -- what remains of n turns at i: one turn less, none
   pub cut_over : (n i at : ℕ) (t : Tables) → n ≤ i → cut_along (n - i) reached direct next at t ≡ t
   unfolding cut_along
   cut_over n i at t h = rw (none_left n i h)

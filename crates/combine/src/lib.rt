@@ -12,22 +12,17 @@ use units::Unit;
 fn pairwise(reached: &[u64], a: usize, b: usize, c: usize, d: usize) -> bool
     ensures { result ≡ four_apart reached.now a b c d }
 {
-    if reach::independent(reached, a, b) {
-        if reach::independent(reached, a, c) {
-            if reach::independent(reached, a, d) {
-                if reach::independent(reached, b, c) {
-                    if reach::independent(reached, b, d) {
-                        return reach::independent(reached, c, d);
-                    }
-                }
-            }
-        }
-    }
-    false
+    reach::independent(reached, a, b)
+        && reach::independent(reached, a, c)
+        && reach::independent(reached, a, d)
+        && reach::independent(reached, b, c)
+        && reach::independent(reached, b, d)
+        && reach::independent(reached, c, d)
 }
 
 // "the next four statements if at least four remain and these are pairwise independent, else the
 // next two if at least two remain, else one single"
+#[tactic(auto, unfolding(crate::specs::Cutting::next_unit))]
 fn next_unit(reached: &[u64], next: &[u8], a: usize) -> Unit
     requires { a < 256 }
     ensures { result ≡ lanes_of (next_unit reached.now next.now a) }
@@ -53,13 +48,12 @@ fn next_unit(reached: &[u64], next: &[u8], a: usize) -> Unit
 fn last_lane(unit: Unit) -> usize
     ensures { result ≡ last_lane unit }
 {
-    if unit.count == 4 {
-        return unit.lanes[3] as usize;
-    }
-    if unit.count == 2 {
-        return unit.lanes[1] as usize;
-    }
-    unit.lanes[0] as usize
+    let last = match unit.count {
+        4 => 3,
+        2 => 1,
+        _ => 0,
+    };
+    usize::from(unit.lanes[last])
 }
 
 // "A chain is cut from its left end." Back comes the set of all units so far, by lowest number.
@@ -79,15 +73,13 @@ fn cut(
 {
     let mut waiting = before;
     let mut at = start;
-    let mut i: usize = 0;
-    while i < n {
+    for _ in 0..n {
         if at == rows::NONE {
-            return waiting;
+            break;
         }
         let unit = next_unit(reached, next, at);
         waiting = waiting | units::wait(direct, units, needs, unit);
         at = rows::number_at(next, last_lane(unit));
-        i += 1;
     }
     waiting
 }
@@ -128,10 +120,8 @@ pub fn combine(
         ≡ combined n reached direct.now next.now rights (tables units.old needs.old 0) }
 {
     let mut waiting: u64 = 0;
-    let mut s: usize = 0;
-    while s < n {
+    for s in 0..n {
         waiting = cut_from(n, &reached, direct, next, rights, s, units, needs, waiting);
-        s += 1;
     }
     waiting
 }

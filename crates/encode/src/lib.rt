@@ -6,7 +6,7 @@
 
 #![tactic(auto)]
 
-ghost use Rattle.std.specs.Prelude.{◌≡◌, ◌≤◌, [], ◌∷◌};
+ghost use Rattle.std.specs.Prelude.{◌≡◌, ◌≤◌};
 ghost use Rattle.encode.specs.Records.{listing, put_all, record_behind, write_s, write_cells, write_o, write_x, nothing_written, write_header};
 
 // How far the list goes: its bytes, its instructions, and what they cost.
@@ -22,27 +22,27 @@ pub fn record_behind(w: Written, size: u8, price: u64) -> Written
     ensures { result ≡ record_behind w size price }
 {
     Written {
-        size: std::num::wrapping_add_u16(w.size, 1 + size as u16),
-        count: std::num::wrapping_add_u16(w.count, 1),
-        price: std::num::wrapping_add_u64(w.price, price),
+        size: w.size.wrapping_add(1 + u16::from(size)),
+        count: w.count.wrapping_add(1),
+        price: w.price.wrapping_add(price),
     }
 }
 
-// "records, each led by its remaining length", "code byte first"
-fn begin(out: &mut [u8], place: usize, size: u8, code: u8)
-    requires { place ≤ 65535 }
-    ensures { out.new ≡ put_all out.old place (size ∷ code ∷ []) }
+// Bytes one behind the other, from a place on. Of a record the first is its remaining length, and the
+// next its code.
+pub fn put_all(out: &mut [u8], place: usize, bytes: &[u8])
+    requires { place ≤ 70000 }
+    ensures { out.new ≡ put_all out.old place bytes.now }
 {
-    rows::set_byte(out, place, size);
-    rows::set_byte(out, place + 1, code);
+    for (i, byte) in bytes.iter().enumerate() {
+        slices::put(out, place + i, *byte);
+    }
 }
 
 pub fn write_s(out: &mut [u8], w: Written, statement: u8, price: u64) -> Written
     ensures { listing out.new result ≡ write_s statement price (listing out.old w) }
 {
-    let place = w.size as usize;
-    begin(out, place, 2, 0);
-    rows::set_byte(out, place + 2, statement);
+    put_all(out, usize::from(w.size), &[2, 0, statement]);
     record_behind(w, 2, price)
 }
 
@@ -58,12 +58,9 @@ pub fn write_cells(
 ) -> Written
     ensures { listing out.new result ≡ write_cells code r k cell price (listing out.old w) }
 {
-    let place = w.size as usize;
-    begin(out, place, 5, code);
-    rows::set_byte(out, place + 2, r);
-    rows::set_byte(out, place + 3, k);
-    rows::set_byte(out, place + 4, codes::array_of(cell));
-    rows::set_byte(out, place + 5, codes::index_of(cell));
+    let array = codes::array_of(cell);
+    let index = codes::index_of(cell);
+    put_all(out, usize::from(w.size), &[5, code, r, k, array, index]);
     record_behind(w, 5, price)
 }
 
@@ -71,32 +68,19 @@ pub fn write_cells(
 pub fn write_o(out: &mut [u8], w: Written, r: u8, operation: u8, k: u8, ra: u8, rb: u8) -> Written
     ensures { listing out.new result ≡ write_o r operation k ra rb (listing out.old w) }
 {
-    let place = w.size as usize;
+    let place = usize::from(w.size);
     if operation == 0 {
-        begin(out, place, 5, 4);
-        rows::set_byte(out, place + 2, r);
-        rows::set_byte(out, place + 3, operation);
-        rows::set_byte(out, place + 4, k);
-        rows::set_byte(out, place + 5, ra);
+        put_all(out, place, &[5, 4, r, operation, k, ra]);
         return record_behind(w, 5, 1);
     }
-    begin(out, place, 6, 4);
-    rows::set_byte(out, place + 2, r);
-    rows::set_byte(out, place + 3, operation);
-    rows::set_byte(out, place + 4, k);
-    rows::set_byte(out, place + 5, ra);
-    rows::set_byte(out, place + 6, rb);
+    put_all(out, place, &[6, 4, r, operation, k, ra, rb]);
     record_behind(w, 6, 1)
 }
 
 pub fn write_x(out: &mut [u8], w: Written, r: u8, lane: u8, variable: u8) -> Written
     ensures { listing out.new result ≡ write_x r lane variable (listing out.old w) }
 {
-    let place = w.size as usize;
-    begin(out, place, 4, 7);
-    rows::set_byte(out, place + 2, r);
-    rows::set_byte(out, place + 3, lane);
-    rows::set_byte(out, place + 4, variable);
+    put_all(out, usize::from(w.size), &[4, 7, r, lane, variable]);
     record_behind(w, 4, 1)
 }
 
@@ -114,8 +98,7 @@ pub fn nothing_written() -> Written
 pub fn write_header(out: &mut [u8], w: Written)
     ensures { out.new ≡ write_header (listing out.old w) }
 {
-    rows::set_byte(out, 0, 1);
-    rows::set_byte(out, 1, rows::low_byte(w.size as u64 / 256));
-    rows::set_byte(out, 2, rows::low_byte(w.size as u64));
-    rows::set_byte(out, 3, rows::low_byte(w.count as u64));
+    let [size_high, size_low] = w.size.to_be_bytes();
+    let [_, count] = w.count.to_be_bytes();
+    put_all(out, 0, &[1, size_high, size_low, count]);
 }

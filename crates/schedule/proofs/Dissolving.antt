@@ -8,7 +8,8 @@ use native.Mathlib.Omega.{arith}
 use lib.Dec.{eqb}
 use lib.ListN.{length, get_or, set, length-set}
 use lib.Seq.{get_or-set_same, get_or-set_other}
-use borrow.Author.Tests.{eq-eqb, ne_eqb}
+use borrow.Author.Tests.{eq-eqb, ne_eqb, lt-ltb}
+use Rattle.basics.specs.Choice.{pick}
 use Rattle.basics.specs.Lists.{any, each}
 use Rattle.basics.specs.Sets.{has}
 use Rattle.basics.proofs.Tests.{below_or_not}
@@ -21,8 +22,10 @@ use Rattle.theorems.proofs.Ready.{with_present, with_absent}
 use Rattle.units.specs.Words.{unit_word}
 use Rattle.units.specs.Waiting.{needed_by, Waits}
 use Rattle.schedule.specs.Stages.{written, single_word, single_need}
-use Rattle.schedule.proofs.Singles.{written_here}
 use Rattle.schedule.proofs.Taking.{numbers_without, in_keep}
+
+written_here : (word : ℕ → ℕ) (s : ℕ) (table : List ℕ) → s < 64 → written word s table ≡ set table s (word s)
+written_here word s table h = ap (λ test. pick test (set table s (word s)) table) (lt-ltb s 64 h)
 
 -- what is written for each statement stands there, and what stands elsewhere stays
 module _ (word : ℕ → ℕ) where

@@ -2,7 +2,6 @@ pub mod Searches
 pub mod Walking
 pub mod Turns
 pub mod Words
-pub mod Singles
 pub mod Members
 pub mod Taking
 pub mod Dissolving

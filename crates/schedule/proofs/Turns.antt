@@ -8,13 +8,7 @@ use lib.Dec.{eqb, ltb}
 use borrow.Author.Tests.{lt-ltb, le-ltb}
 use Rattle.basics.specs.Choice.{pick}
 use Rattle.basics.proofs.Parts.{pick_holds}
-use Rattle.schedule.specs.Stages.{Stage, stage, ready_at, pack_at, lowest_waiting, taken, dissolved, unready_step, stepped, steps_from}
-
--- equal parts make equal stages
-pub same_stage : {table table' needs needs' order order' : List ℕ} {waiting waiting' scheduled scheduled' size size' : ℕ}
-    → table ≡ table' → needs ≡ needs' → order ≡ order' → waiting ≡ waiting' → scheduled ≡ scheduled' → size ≡ size'
-    → stage table needs order waiting scheduled size ≡ stage table' needs' order' waiting' scheduled' size'
-same_stage a b c d e f = λ i. stage (a i) (b i) (c i) (d i) (e i) (f i)
+use Rattle.schedule.specs.Stages.{Stage, ready_at, pack_at, lowest_waiting, taken, dissolved, unready_step, stepped, steps_from}
 
 module _ (direct : List ℕ) (s : Stage) where
   pub step_takes : (at : ℕ) → lowest_waiting (ready_at s.needs s.scheduled) s.waiting ≡ at → at < 64 → stepped direct s ≡ taken at s

@@ -1,5 +1,5 @@
 -- "Schedule" over tables: the waiting units by lowest statement number, what each waits for, and the words of the units that are scheduled.
-use Rattle.std.specs.Prelude.{ℕ, zero, suc, ◌+◌, Bool, true, false, ◌&&◌, List, [], ◌∷◌, eqb, ltb, get_or, set}
+use Rattle.std.specs.Prelude.{◌≡◌, ℕ, zero, suc, ◌+◌, ◌<◌, Option, None, Some, Bool, true, false, ◌&&◌, List, [], ◌∷◌, eqb, ltb, get_or, set}
 use Rattle.std.specs.Int.Bits.{bit_and, bit_xor}
 use Rattle.basics.specs.Choice.{pick}
 use Rattle.basics.specs.Sets.{nobody, only, join, has}
@@ -40,6 +40,15 @@ pack_at table i = ltb 1 (word_lanes (get_or table i 0)).count
 
 abbrev pub lowest_waiting : (ℕ → Bool) → ℕ → ℕ
 lowest_waiting test waiting = first_of (λ i. has waiting i && test i) 64 0
+
+-- the lowest of a set that passes a test, where one does
+abbrev pub IsLowest : (ℕ → Bool) → ℕ → Option ℕ → Type 0
+IsLowest test waiting None = lowest_waiting test waiting ≡ 64
+IsLowest test waiting (Some at) = (at < 64) × (lowest_waiting test waiting ≡ at)
+
+-- what a call answers, by its number, is what the test says
+abbrev pub Decides : (ℕ → Bool → Type 0) → (ℕ → Bool) → Type 0
+Decides answers test = (i : ℕ) (answer : Bool) → i < 64 → answers i answer → answer ≡ test i
 
 -- the set without this one
 abbrev pub without_one : ℕ → ℕ → ℕ

@@ -2,10 +2,10 @@
 
 #![tactic(auto)]
 
-ghost use Rattle.std.specs.Prelude.{◌≡◌, ◌+◌, ◌≤◌, ◌<◌, get_or, set as replaced};
+ghost use Rattle.std.specs.Prelude.{◌≡◌, ℕ, Bool, ◌+◌, ◌≤◌, ◌<◌, get_or, set as replaced};
 ghost use Rattle.basics.specs.Sets.{join};
 ghost use Rattle.units.specs.Lanes.{lanes_word, word_lanes, member_lane, member_lanes};
-ghost use Rattle.schedule.specs.Stages.{stage_of, word_ready, ready_at, pack_at, lowest_waiting, without_one, written, single_word, single_need, in_lanes, with_single, stepped, scheduled_tables};
+ghost use Rattle.schedule.specs.Stages.{stage_of, word_ready, ready_at, pack_at, IsLowest, Decides, without_one, written, single_word, single_need, in_lanes, with_single, stepped, scheduled_tables};
 
 // The units that wait, by lowest number, the statements that are scheduled, and how many units are.
 #[derive(Clone, Copy)]
@@ -22,33 +22,35 @@ fn is_ready(needed: u64, scheduled: u64) -> bool
     needed & scheduled == needed
 }
 
-fn lowest_ready(needs: &[u64], waiting: u64, scheduled: u64) -> usize
-    ensures { result ≡ lowest_waiting (ready_at needs.now scheduled) waiting }
+// The lowest of a set that passes a test.
+fn lowest<F: Fn(usize) -> bool>(set: u64, passes: F) -> Option<usize>
+    requires { F.IsAlwaysCallable passes }
+    ensures { (test : ℕ → Bool) → Decides (F.post passes) test → IsLowest test set result }
 {
-    let mut rest = waiting;
+    let mut rest = set;
     while rest != 0 {
         let at = rows::first(rest);
-        if is_ready(rows::word_at(needs, at), scheduled) {
-            return at;
+        if passes(at) {
+            return Some(at);
         }
         rest = rows::behind_first(rest);
     }
-    rows::NONE
+    None
 }
 
-fn lowest_pack(units: &[u64], waiting: u64) -> usize
-    ensures { result ≡ lowest_waiting (pack_at units.now) waiting }
+fn lowest_ready(needs: &[u64], waiting: u64, scheduled: u64) -> Option<usize>
+    ensures { IsLowest (ready_at needs.now scheduled) waiting result }
 {
-    let mut rest = waiting;
-    while rest != 0 {
-        let at = rows::first(rest);
-        let unit = units::unit_at(units, at);
-        if unit.count > 1 {
-            return at;
-        }
-        rest = rows::behind_first(rest);
-    }
-    rows::NONE
+    lowest(
+        waiting,
+        |at| is_ready(slices::at_or(needs, at, 0), scheduled),
+    )
+}
+
+fn lowest_pack(units: &[u64], waiting: u64) -> Option<usize>
+    ensures { IsLowest (pack_at units.now) waiting result }
+{
+    lowest(waiting, |at| units::unit_at(units, at).count > 1)
 }
 
 fn without(set: u64, i: usize) -> u64
@@ -84,7 +86,7 @@ fn wait_single(direct: &[u64], units: &mut [u64], needs: &mut [u64], lane: u8) -
         × (result ≡ member_lane lane)) }
 {
     if lane < 64 {
-        return units::wait(direct, units, needs, units::single(lane as usize));
+        return units::wait(direct, units, needs, units::single(usize::from(lane)));
     }
     0
 }
@@ -103,19 +105,19 @@ fn dissolve(
         × (result.count ≡ progress.count)))) }
 {
     let unit = units::unit_at(units, at);
-    let first = wait_single(direct, units, needs, unit.lanes[0]);
-    let second = wait_single(direct, units, needs, unit.lanes[1]);
-    let third = wait_single(direct, units, needs, unit.lanes[2]);
-    let fourth = wait_single(direct, units, needs, unit.lanes[3]);
+    let mut waiting = progress.waiting;
+    for lane in unit.lanes {
+        waiting |= wait_single(direct, units, needs, lane);
+    }
     Progress {
-        waiting: progress.waiting | first | second | third | fourth,
-        scheduled: progress.scheduled,
-        count: progress.count,
+        waiting,
+        ..progress
     }
 }
 
 // "Take the ready unit with the lowest statement number. If none is ready, dissolve the waiting pack
 // with the lowest statement number into singles."
+#[tactic(auto, unfolding(crate::specs::Stages::stepped))]
 fn step(
     direct: &[u64],
     units: &mut [u64],
@@ -127,13 +129,11 @@ fn step(
     ensures { stage_of units.new needs.new order.new result
         ≡ stepped direct.now (stage_of units.old needs.old order.old progress) }
 {
-    let ready = lowest_ready(needs, progress.waiting, progress.scheduled);
-    if ready < rows::NONE {
-        return take(units, order, progress, ready);
+    if let Some(at) = lowest_ready(needs, progress.waiting, progress.scheduled) {
+        return take(units, order, progress, at);
     }
-    let pack = lowest_pack(units, progress.waiting);
-    if pack < rows::NONE {
-        return dissolve(direct, units, needs, progress, pack);
+    if let Some(at) = lowest_pack(units, progress.waiting) {
+        return dissolve(direct, units, needs, progress, at);
     }
     progress
 }
@@ -156,13 +156,11 @@ pub fn schedule(
         scheduled: 0,
         count: 0,
     };
-    let mut i: usize = 0;
-    while i < n + n {
+    for _ in 0..n + n {
         if progress.waiting == 0 {
-            return progress.count;
+            break;
         }
         progress = step(direct, units, needs, order, progress);
-        i += 1;
     }
     progress.count
 }

@@ -1,25 +1,24 @@
 -- `schedule::dissolve` meets its contract. The lanes are met one after the other.
-use mathlib.Core.Path.{refl, ap}
+use mathlib.Core.Path.{sym, ap, ◌∙◌}
+use mathlib.Core.List.{List}
+use Prim.Native.Nat.{ℕ, ◌+◌, ◌-◌}
 use lib.ListN.{get_or}
 use Rattle.basics.specs.Sets.{join}
+use Rattle.basics.specs.Counting.{count}
+use Rattle.basics.proofs.Counting.{count_more}
 use Rattle.schedule.specs.Stages.{written, single_word, single_need, with_single}
-use Rattle.schedule.proofs.Singles.{four_met}
 use Rattle.schedule.proofs.dissolve.Goals as goal
 
-pub returns : goal.returns
-returns c =
-    let word = get_or c.args.units.now c.args.at 0 in
-    let w₁ = join c.args.progress.waiting c.wait_single-first.result in
-    let w₂ = join w₁ c.wait_single-second.result in
-    let w₃ = join w₂ c.wait_single-third.result in
-    let w₄ = join w₃ c.wait_single-fourth.result in (
-      four_met (written single_word) c.unit_at-unit.result word c.unit_at-unit.ensures c.args.units.now _ _ _ _ c.wait_single-first.ensures.0 c.wait_single-second.ensures.0 c.wait_single-third.ensures.0 c.wait_single-fourth.ensures.0,
-      (
-        four_met (written (single_need c.args.direct.now)) c.unit_at-unit.result word c.unit_at-unit.ensures c.args.needs.now _ _ _ _ c.wait_single-first.ensures.1.0 c.wait_single-second.ensures.1.0 c.wait_single-third.ensures.1.0 c.wait_single-fourth.ensures.1.0,
-        (
-          four_met with_single c.unit_at-unit.result word c.unit_at-unit.ensures c.args.progress.waiting w₁ w₂ w₃ w₄ (ap (join c.args.progress.waiting) c.wait_single-first.ensures.1.1) (ap (join w₁) c.wait_single-second.ensures.1.1) (ap (join w₂) c.wait_single-third.ensures.1.1)
-              (ap (join w₃) c.wait_single-fourth.ensures.1.1),
-          (refl, refl),
-        ),
-      ),
+pub loop-lane-preserved : goal.loop-lane-preserved
+loop-lane-preserved c =
+    let i = c.loop-lane.lane-index in
+    let lanes = c.unit_at-unit.result.lanes in
+    let words : ℕ → List ℕ → List ℕ = λ k. written single_word (get_or lanes k 0) in
+    let needs : ℕ → List ℕ → List ℕ = λ k. written (single_need c.args.direct.now) (get_or lanes k 0) in
+    let waiting : ℕ → ℕ → ℕ = λ k. with_single (get_or lanes k 0) in (
+      c.loop-lane.invariant.0 ∙ count_more words 4 i c.loop-lane.units c.loop-lane-test.true ∙ ap (count (4 - (i + 1)) (i + 1) words) (sym c.wait_single-waiting.ensures.0),
+      c.loop-lane.invariant.1 ∙ count_more needs 4 i c.loop-lane.needs c.loop-lane-test.true ∙ ap (count (4 - (i + 1)) (i + 1) needs) (sym c.wait_single-waiting.ensures.1.0),
+      c.loop-lane.invariant.2
+          ∙ count_more waiting 4 i c.loop-lane.waiting c.loop-lane-test.true
+          ∙ ap (λ (set : ℕ). count (4 - (i + 1)) (i + 1) waiting (join c.loop-lane.waiting set)) (sym c.wait_single-waiting.ensures.1.1),
     )
