@@ -5,4 +5,3 @@ pub mod Singles
 pub mod Units
 pub mod Prices
 pub mod End
-pub mod Steps

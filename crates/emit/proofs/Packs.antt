@@ -1,6 +1,7 @@
 -- A pack over the tables: "fetches left, then right", "Then O. Then the destination."
-use Rattle.std.proofs.Common.{◌≡◌, ℕ, ◌+◌, ◌*◌, ◌<◌, ◌≤◌, Bool, true, false, eqb, ltb, List, [], ◌∷◌, ◌++◌, map, length, sym, refl, ap, ◌∙◌, subst, add-zero, arith, length-append}
+use Rattle.std.proofs.Common.{◌≡◌, ℕ, ◌+◌, ◌*◌, ◌<◌, ◌≤◌, Bool, true, false, eqb, List, [], ◌∷◌, ◌++◌, map, length, sym, refl, ap, ◌∙◌, subst, add-zero, arith, length-append}
 use mathlib.Core.Option.{Option, none, some}
+use Rattle.std.specs.Prelude.{Option as Found, Some, None}
 use lib.ListN.{length-map}
 use Rattle.basics.specs.Choice.{pick}
 use Rattle.basics.specs.Lists.{all}
@@ -94,11 +95,11 @@ right_other numbers writers tuple operation s e = rw e
 -- a fetch writes no place
 fetch_done : (numbers writers : List ℕ) (tuple : Tuple) (s : State) → (fetch_state numbers writers tuple s).after.done ≡ s.done
 unfolding fetch_state
-fetch_done numbers writers tuple s = by (ltb (holder_in tuple s) 96)
+fetch_done numbers writers tuple s = by (holder_in tuple s)
   where
-    by : (t : Bool) → (pick t (got s (holder_in tuple s)) (got (load_state numbers writers tuple s) s.used)).after.done ≡ s.done
-    by true = refl
-    by false = refl
+    by : (found : Found ℕ) → let fetched : Got = elim found [ Some r ↦ got s r | None ↦ got (load_state numbers writers tuple s) s.used ] in fetched.after.done ≡ s.done
+    by (Some r) = refl
+    by None = refl
 
 right_done : (numbers writers : List ℕ) (tuple : Tuple) (operation : ℕ) (s : State) → (fetch_right_state numbers writers tuple operation s).after.done ≡ s.done
 unfolding fetch_right_state

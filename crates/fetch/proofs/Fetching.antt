@@ -1,6 +1,7 @@
 -- "A pack fetches": what the tables say after a load and after a fetch, and which register has the tuple.
-use Rattle.std.proofs.Common.{◌≡◌, ℕ, ◌<◌, Bool, true, false, List, length, sym, refl, ap, ◌∙◌, subst, arith, lt-ltb}
+use Rattle.std.proofs.Common.{◌≡◌, ℕ, ◌<◌, Bool, true, false, List, length, sym, refl, ap, ◌∙◌, subst, arith}
 use mathlib.Core.Option.{Option, none, some}
+use Rattle.std.specs.Prelude.{◌≤◌, min, Some, None}
 use lib.ListN.{length-map}
 use Rattle.basics.specs.Lists.{each}
 use Rattle.meaning.specs.declared.Operand.{Operand}
@@ -16,7 +17,7 @@ use Rattle.facts.specs.Tied.{Names}
 use Rattle.encode.proofs.Encoding.{shorter, record_listed}
 use Rattle.registers.specs.Table.{holder_from, hold_tuple}
 use Rattle.registers.proofs.Laned.{laned, tuple_of}
-use Rattle.registers.proofs.Table.{Registers, Found, holder_found, registers_more}
+use Rattle.registers.proofs.Table.{Registers, answer, holder_found, registers_more}
 use Rattle.lanes.specs.Homes.{InLanes, extract_tuple}
 use Rattle.lanes.proofs.Extraction.{Stepped}
 use Rattle.fetch.specs.Fetching.{State, Got, got, tuple_in_row, tuple_constant, load_tuple, load_state, holder_in, fetch_state}
@@ -82,33 +83,31 @@ module _ (base : List ℕ) (ss : List Statement) (numbers writers : List ℕ) (n
     pub after : Standing base ss e fetched.after
     pub register : fetched.register ≡ r
 
-  found_there : (os : List Operand) (s : State) (r : ℕ) → holder_in (tuple_of os) s ≡ r → r < 96 → fetch_state numbers writers (tuple_of os) s ≡ got s r
+  found_there : (os : List Operand) (s : State) (r : ℕ) → holder_in (tuple_of os) s ≡ Some r → fetch_state numbers writers (tuple_of os) s ≡ got s r
   unfolding fetch_state
-  found_there os s r e below = rw (e, lt-ltb r 96 below)
+  found_there os s r e = rw (fetch_state, e)
 
-  found_nowhere : (os : List Operand) (s : State) → holder_in (tuple_of os) s ≡ 96
+  found_nowhere : (os : List Operand) (s : State) → holder_in (tuple_of os) s ≡ None
       → fetch_state numbers writers (tuple_of os) s ≡ got (load_state numbers writers (tuple_of os) s) s.used
   unfolding fetch_state
-  found_nowhere os s e = rw e
+  found_nowhere os s e = rw (fetch_state, e)
 
   pub fetch_standing : (os : List Operand) (e : Emitted) (s : State) → Fetchable os → Stands base ss e s → Small ss (fetch_tuple os e)
       → FetchedAs (fetch_tuple os e) (fetch_state numbers writers (tuple_of os) s) (fetched_in os e)
   unfolding fetch_tuple fetched_in
   fetch_standing os e s f h small = by (holder 0 e.registers os) refl small
     where
-      looked_for : Standing base ss e s → (found : Option ℕ) → holder 0 e.registers os ≡ found → Found (holder_in (tuple_of os) s) (next e) found
-      looked_for st found is =
-          rw st.used
-          (subst (Found (holder_from (next e) 0 s.registers s.done (tuple_of os)) (next e)) is
-          (holder_found ss s.done s.registers os (laned os f.lanes) f.fit e.registers st.registers))
+      looked_for : next e ≤ 96 → Standing base ss e s → holder_in (tuple_of os) s ≡ answer (holder 0 e.registers os)
+      looked_for few st =
+          let same : min s.used 96 ≡ next e = omega (arith, st.used, few) in
+          ap (λ (n : ℕ). holder_from n 0 s.registers s.done (tuple_of os)) same
+          ∙ holder_found ss s.done s.registers os (laned os f.lanes) f.fit e.registers st.registers
 
       by : (found : Option ℕ) → holder 0 e.registers os ≡ found → Small ss (elim found [ some r ↦ e | none ↦ load os e ])
           → FetchedAs (elim found [ some r ↦ e | none ↦ load os e ]) (fetch_state numbers writers (tuple_of os) s) (elim found [ some r ↦ r | none ↦ next e ])
       by (some r) is k =
           let st = h k in
-          let there : Found (holder_in (tuple_of os) s) (next e) (some r) = looked_for st (some r) is in
-          rw (found_there os s r there.0 (omega (arith, there.1, k.few))) (record { after = st; register = refl })
+          rw (found_there os s r (looked_for k.few st ∙ ap answer is)) (record { after = st; register = refl })
       by none is k =
           let st = h (before_load_lem ss os e k) in
-          let nowhere : Found (holder_in (tuple_of os) s) (next e) none = looked_for st none is in
-          rw (found_nowhere os s nowhere) (record { after = load_standing os e s f h k; register = st.used })
+          rw (found_nowhere os s (looked_for (before_load_lem ss os e k).few st ∙ ap answer is)) (record { after = load_standing os e s f h k; register = st.used })

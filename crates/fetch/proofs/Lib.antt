@@ -1,4 +1,3 @@
 pub mod Tuples
 pub mod Standing
 pub mod Fetching
-pub mod Steps

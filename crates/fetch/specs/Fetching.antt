@@ -1,16 +1,17 @@
 -- "A pack fetches" over the tables: a current register that holds the tuple, else L, C or G.
-use Rattle.std.specs.Prelude.{ℕ, ◌+◌, ◌%◌, ◌^◌, Bool, true, ◌&&◌, List, [], ◌∷◌, ◌==◌, nat_lt}
+use Rattle.std.specs.Prelude.{ℕ, min, ◌+◌, ◌%◌, ◌^◌, Bool, true, ◌&&◌, List, [], ◌∷◌, ◌==◌, Option, Some, None, replicate}
 use Rattle.basics.specs.Choice.{pick}
+use Rattle.basics.specs.Sets.{nobody}
 use Rattle.codes.specs.Codes.{codes_in_row, is_constant_code}
 use Rattle.facts.specs.Facts.{fact_at}
 use Rattle.units.specs.declared.Unit.{Unit as Lanes}
 use Rattle.units.specs.Lanes.{lane}
 use Rattle.registers.specs.declared.Tuple.{Tuple}
 use Rattle.registers.specs.Table.{tuple_lane, holder_from, hold_tuple}
-use Rattle.encode.specs.Records.{Listing, write_cells}
+use Rattle.encode.specs.Records.{Listing, write_cells, nothing_written}
 use Rattle.encode_lanes.specs.Lanes.{write_c, write_g}
 use Rattle.lanes.specs.Homes.{InLanes, in_lanes, extract_tuple}
-use Rattle.fetch.specs.declared.Emitted.{Emitted}
+use Rattle.fetch.specs.declared.Emission.{Emission}
 
 -- what is emitted so far: the list and the lanes, the table of registers and how many are in use, and the statements whose writes are done
 pub record State : Type 0 where
@@ -19,9 +20,11 @@ pub record State : Type 0 where
   pub used : ℕ
   pub done : ℕ
 
-abbrev pub state : List ℕ → List ℕ → List ℕ → Emitted → State
-state out homes registers e =
-    record { lanes = in_lanes out homes e.written; registers = registers; used = e.registers; done = e.done }
+abbrev pub state : List ℕ → Emission → State
+state out e = record { lanes = in_lanes out e.homes e.written; registers = e.registers; used = e.used; done = e.done }
+
+abbrev pub no_emission : Emission
+no_emission = record { homes = replicate 257 0; registers = replicate 576 0; written = nothing_written; used = 0; done = nobody }
 
 -- and the register that a fetch gives
 pub record Got : Type 0 where
@@ -65,12 +68,12 @@ load_state numbers writers tuple s =
       done = s.done;
     }
 
-abbrev pub holder_in : Tuple → State → ℕ
-holder_in tuple s = holder_from s.used 0 s.registers s.done tuple
+abbrev pub holder_in : Tuple → State → Option ℕ
+holder_in tuple s = holder_from (min s.used 96) 0 s.registers s.done tuple
 
 unfoldable pub fetch_state : List ℕ → List ℕ → Tuple → State → Got
 fetch_state numbers writers tuple s =
-    pick (nat_lt (holder_in tuple s) 96) (got s (holder_in tuple s)) (got (load_state numbers writers tuple s) s.used)
+    elim (holder_in tuple s) [ Some r ↦ got s r | None ↦ got (load_state numbers writers tuple s) s.used ]
 
 -- a copy has no right
 unfoldable pub fetch_right_state : List ℕ → List ℕ → Tuple → ℕ → State → Got

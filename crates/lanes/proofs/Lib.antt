@@ -1,3 +1,2 @@
 pub mod Homes
 pub mod Extraction
-pub mod Steps

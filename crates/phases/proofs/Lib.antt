@@ -1,4 +1,6 @@
 pub mod Fits
 pub mod Scheduling
 pub mod Tables
+pub mod Scheduled
+pub mod Filled
 pub mod Ordering

@@ -3,6 +3,7 @@ use mathlib.Core.Path.{◌≡◌, refl, sym, ap, subst, ◌∙◌}
 use mathlib.Core.Logic.{◌⊎◌, inl, inr}
 use mathlib.Core.Bool.{Bool, true, false, ◌&&◌, not}
 use mathlib.Core.Option.{Option, none, some}
+use Rattle.std.specs.Prelude.{Option as Answer, Some, None}
 use mathlib.Core.List.{List, [], ◌∷◌, ◌++◌, map}
 use Prim.Native.Nat.{ℕ, suc, ◌+◌, ◌*◌, ◌%◌, ◌≤◌, ◌<◌}
 use native.Mathlib.Nat.{add-zero}
@@ -75,45 +76,33 @@ serves_same ss done table r register os h shape fit =
     ∙ asked_before (eqb (lane_code register.tuple 0) (lane_code os 0)) register.current (eqb (length register.tuple) (length os)) _
     ∙ ap (λ (same : Bool). register.current && same) (same_codes_tuple register.tuple os (laned register.tuple h.lanes) shape h.fit fit)
 
--- by its number, 96 where there is none
-abbrev pub Found : ℕ → ℕ → Option ℕ → Type 0
-Found n bound none = n ≡ 96
-Found n bound (some r) = (n ≡ r) × (r < bound)
+-- an option of the definitions as the code has it
+abbrev pub answer : Option ℕ → Answer ℕ
+answer none = None
+answer (some r) = Some r
 
 module _ (ss : List Statement) (done : ℕ) (table : List ℕ) (os : List Operand) (shape : Laned os) (fit : all operand_fits os ≡ true) where
-  serving : (n r : ℕ) → serves_at table r (tuple_of os) done ≡ true → holder_from (suc n) r table done (tuple_of os) ≡ r
-  unfolding holder_from
-  serving n r e = rw (e, holder_from)
-
-  not_serving : (n r : ℕ) → serves_at table r (tuple_of os) done ≡ false
-      → holder_from (suc n) r table done (tuple_of os) ≡ holder_from n (r + 1) table done (tuple_of os)
-  unfolding holder_from
-  not_serving n r e = rw (e, holder_from)
-
   found_from : (r : ℕ) (registers : List Register) → ((i : ℕ) → i < length registers → Holding ss done table (r + i) (get_or registers i no_register))
-      → Found (holder_from (length registers) r table done (tuple_of os)) (r + length registers) (holder r registers os)
+      → holder_from (length registers) r table done (tuple_of os) ≡ answer (holder r registers os)
   unfolding holder_from
   found_from r [] held = refl
   found_from r (x ∷ registers) held =
-      by (x.current && same_tuple x.tuple os) (serves_same ss done table r x os (subst (λ (k : ℕ). Holding ss done table k x) (add-zero r) (held 0 (omega arith))) shape fit)
-      (holder (r + 1) registers os)
+      rw (serves_same ss done table r x os (subst (λ (k : ℕ). Holding ss done table k x) (add-zero r) (held 0 (omega arith))) shape fit, holder_from)
+      (by (x.current && same_tuple x.tuple os)
       (found_from (r + 1) registers
-      (λ i below. subst (λ (k : ℕ). Holding ss done table k (get_or registers i no_register)) (omega arith) (held (suc i) (omega arith))))
+      (λ i below. subst (λ (k : ℕ). Holding ss done table k (get_or registers i no_register)) (omega arith) (held (suc i) (omega arith)))))
     where
-      by : (t : Bool) → serves_at table r (tuple_of os) done ≡ t → (found : Option ℕ)
-          → Found (holder_from (length registers) (r + 1) table done (tuple_of os)) (r + 1 + length registers) found
-          → Found (holder_from (suc (length registers)) r table done (tuple_of os)) (r + suc (length registers)) (elim t [ true ↦ some r | false ↦ found ])
-      by true e found later = (serving (length registers) r e, omega arith)
-      by false e none later = not_serving (length registers) r e ∙ later
-      by false e (some number) later = (not_serving (length registers) r e ∙ later.0, omega (arith, later.1))
+      by : (t : Bool) → holder_from (length registers) (r + 1) table done (tuple_of os) ≡ answer (holder (r + 1) registers os)
+          → elim t [ true ↦ Some r | false ↦ holder_from (length registers) (r + 1) table done (tuple_of os) ]
+          ≡ answer (elim t [ true ↦ some r | false ↦ holder (r + 1) registers os ])
+      by true later = refl
+      by false later = later
 
   pub holder_found : (registers : List Register) → Registers ss done registers table
-      → Found (holder_from (length registers) 0 table done (tuple_of os)) (length registers) (holder 0 registers os)
+      → holder_from (length registers) 0 table done (tuple_of os) ≡ answer (holder 0 registers os)
   holder_found registers h =
-      let e : 0 + length registers ≡ length registers = omega arith in
-      subst (λ (n : ℕ). Found (holder_from (length registers) 0 table done (tuple_of os)) n (holder 0 registers os)) e
-      (found_from 0 registers
-      (λ i below. subst (λ (k : ℕ). Holding ss done table k (get_or registers i no_register)) (omega arith) (h.holds i below)))
+      found_from 0 registers
+      (λ i below. subst (λ (k : ℕ). Holding ss done table k (get_or registers i no_register)) (omega arith) (h.holds i below))
 
 -- a register that is put into the table: its own slots, and those of the others
 module _ (r a b c d k e : ℕ) where

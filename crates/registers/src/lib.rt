@@ -7,10 +7,10 @@
 ghost use Rattle.std.specs.Prelude.{◌≡◌, ◌<◌};
 ghost use Rattle.registers.specs.Table.{register_at, set_register, is_current, holds_tuple, serves_at, holder_from, endings as endings_of, hold_tuple};
 
-pub const REGISTERS: usize = 96;
+use facts::Tables;
 
 // The operands of a unit at one position, or its destinations, by code; 0 where there is no lane.
-#[derive(Clone, Copy)]
+#[derive(Clone, Copy, PartialEq, Eq)]
 pub struct Tuple {
     pub lanes: [u64; 4],
     pub count: u8,
@@ -20,8 +20,7 @@ pub struct Tuple {
 // until a statement writes one of those places": `ends` are the statements still to come that do.
 #[derive(Clone, Copy)]
 pub struct Register {
-    pub lanes: [u64; 4],
-    pub count: u8,
+    pub tuple: Tuple,
     pub ends: u64,
 }
 
@@ -29,17 +28,17 @@ fn register_at(registers: &[u64], r: usize) -> Register
     requires { r < 256 }
     ensures { result ≡ register_at registers.now r }
 {
-    let lanes = [
-        rows::word_at(registers, r),
-        rows::word_at(registers, r + 96),
-        rows::word_at(registers, r + 192),
-        rows::word_at(registers, r + 288),
-    ];
-    let count = rows::low_byte(rows::word_at(registers, r + 384));
     Register {
-        lanes,
-        count,
-        ends: rows::word_at(registers, r + 480),
+        tuple: Tuple {
+            lanes: [
+                slices::at_or(registers, r, 0),
+                slices::at_or(registers, r + 96, 0),
+                slices::at_or(registers, r + 192, 0),
+                slices::at_or(registers, r + 288, 0),
+            ],
+            count: rows::low_byte(slices::at_or(registers, r + 384, 0)),
+        },
+        ends: slices::at_or(registers, r + 480, 0),
     }
 }
 
@@ -47,12 +46,13 @@ fn set_register(registers: &mut [u64], r: usize, register: Register)
     requires { r < 256 }
     ensures { registers.new ≡ set_register registers.old r register }
 {
-    rows::set_word(registers, r, register.lanes[0]);
-    rows::set_word(registers, r + 96, register.lanes[1]);
-    rows::set_word(registers, r + 192, register.lanes[2]);
-    rows::set_word(registers, r + 288, register.lanes[3]);
-    rows::set_word(registers, r + 384, register.count as u64);
-    rows::set_word(registers, r + 480, register.ends);
+    let tuple = register.tuple;
+    slices::put(registers, r, tuple.lanes[0]);
+    slices::put(registers, r + 96, tuple.lanes[1]);
+    slices::put(registers, r + 192, tuple.lanes[2]);
+    slices::put(registers, r + 288, tuple.lanes[3]);
+    slices::put(registers, r + 384, u64::from(tuple.count));
+    slices::put(registers, r + 480, register.ends);
 }
 
 // No statement that ends it is done.
@@ -66,16 +66,7 @@ fn is_current(register: Register, done: u64) -> bool
 fn holds(register: Register, tuple: Tuple) -> bool
     ensures { result ≡ holds_tuple register tuple }
 {
-    if register.count == tuple.count {
-        if register.lanes[0] == tuple.lanes[0] {
-            if register.lanes[1] == tuple.lanes[1] {
-                if register.lanes[2] == tuple.lanes[2] {
-                    return register.lanes[3] == tuple.lanes[3];
-                }
-            }
-        }
-    }
-    false
+    register.tuple == tuple
 }
 
 // "a current register that holds exactly this tuple"
@@ -84,62 +75,42 @@ fn serves(registers: &[u64], r: usize, tuple: Tuple, done: u64) -> bool
     ensures { result ≡ serves_at registers.now r tuple done }
 {
     // most registers differ in the first lane already
-    if rows::word_at(registers, r) == tuple.lanes[0] {
-        let register = register_at(registers, r);
-        if is_current(register, done) {
-            return holds(register, tuple);
-        }
+    if slices::at_or(registers, r, 0) != tuple.lanes[0] {
+        return false;
     }
-    false
+    let register = register_at(registers, r);
+    is_current(register, done) && holds(register, tuple)
 }
 
-pub fn holder(registers: &[u64], count: u8, done: u64, tuple: Tuple) -> usize
+// The first of so many registers that does.
+#[tactic(auto, using(crate::proofs::Searching::found_here, crate::proofs::Searching::found_behind, crate::proofs::Searching::found_nowhere))]
+pub fn holder(registers: &[u64], count: u8, done: u64, tuple: Tuple) -> Option<u8>
     ensures { result ≡ holder_from count 0 registers.now done tuple }
 {
-    let n = count as usize;
-    let mut r: usize = 0;
-    while r < n {
-        if serves(registers, r, tuple, done) {
-            return r;
+    for r in 0..count {
+        if serves(registers, usize::from(r), tuple, done) {
+            return Some(r);
         }
-        r += 1;
     }
-    REGISTERS
+    None
 }
 
 // The statements not yet done that write one of the tuple's places.
-fn endings(numbers: &[u8], writers: &[u64], tuple: Tuple, done: u64) -> u64
-    ensures { result ≡ endings_of numbers.now writers.now tuple done }
+fn endings(tables: &Tables, tuple: Tuple, done: u64) -> u64
+    ensures { result ≡ endings_of tables.now.numbers tables.now.writers tuple done }
 {
-    let first = facts::naming(numbers, writers, tuple.lanes[0])
-        | facts::naming(numbers, writers, tuple.lanes[1]);
-    let second = facts::naming(numbers, writers, tuple.lanes[2])
-        | facts::naming(numbers, writers, tuple.lanes[3]);
+    // two and two, as `writers_of` joins them; a fold would join them in another order
+    let first = tables.writing(tuple.lanes[0]) | tables.writing(tuple.lanes[1]);
+    let second = tables.writing(tuple.lanes[2]) | tables.writing(tuple.lanes[3]);
     let all = first | second;
     all ^ (all & done)
 }
 
 // A new register that holds the tuple.
-pub fn hold(
-    registers: &mut [u64],
-    r: usize,
-    numbers: &[u8],
-    writers: &[u64],
-    tuple: Tuple,
-    done: u64,
-)
+pub fn hold(registers: &mut [u64], r: usize, tables: &Tables, tuple: Tuple, done: u64)
     requires { r < 256 }
-    ensures { registers.new ≡ hold_tuple numbers.now writers.now tuple done r registers.old }
+    ensures { registers.new ≡ hold_tuple tables.now.numbers tables.now.writers tuple done r registers.old }
 {
-    let lanes = tuple.lanes;
-    let ends = endings(numbers, writers, tuple, done);
-    set_register(
-        registers,
-        r,
-        Register {
-            lanes,
-            count: tuple.count,
-            ends,
-        },
-    );
+    let ends = endings(tables, tuple, done);
+    set_register(registers, r, Register { tuple, ends });
 }

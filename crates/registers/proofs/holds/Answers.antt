@@ -1,40 +1,15 @@
 -- `registers::holds` meets its contract.
-use borrow.Author.Tests.{eq-eqb, ne_eqb}
+use mathlib.Core.Path.{◌≡◌, ◌∙◌}
+use lib.ListN.{length}
+use borrow.Author.Rules.{rules}
+use Rattle.basics.proofs.Mapped.{unmapped}
+use Rattle.registers.proofs.Searching.{same_by_lanes}
 use Rattle.registers.proofs.holds.Goals as goal
 
-pub returns-then-register-tuple-4 : goal.returns-then-register-tuple-4
-returns-then-register-tuple-4 c =
-    rw (
-      eq-eqb _ _ c.if-register-tuple-4.true,
-      eq-eqb _ _ c.if-register-tuple-3.true,
-      eq-eqb _ _ c.if-register-tuple-2.true,
-      eq-eqb _ _ c.if-register-tuple.true,
-    )
-
-pub returns-else-register-tuple-4 : goal.returns-else-register-tuple-4
-returns-else-register-tuple-4 c =
-    rw (
-      ne_eqb _ _ c.if-register-tuple-4.false,
-      eq-eqb _ _ c.if-register-tuple-3.true,
-      eq-eqb _ _ c.if-register-tuple-2.true,
-      eq-eqb _ _ c.if-register-tuple.true,
-    )
-
-pub returns-else-register-tuple-3 : goal.returns-else-register-tuple-3
-returns-else-register-tuple-3 c =
-    rw (
-      ne_eqb _ _ c.if-register-tuple-3.false,
-      eq-eqb _ _ c.if-register-tuple-2.true,
-      eq-eqb _ _ c.if-register-tuple.true,
-    )
-
-pub returns-else-register-tuple-2 : goal.returns-else-register-tuple-2
-returns-else-register-tuple-2 c =
-    rw (
-      ne_eqb _ _ c.if-register-tuple-2.false,
-      eq-eqb _ _ c.if-register-tuple.true,
-    )
-
-pub returns-else-register-tuple : goal.returns-else-register-tuple
-returns-else-register-tuple c =
-    rw (ne_eqb _ _ c.if-register-tuple.false)
+pub returns : goal.returns
+returns c =
+    let register = c.args.register in
+    let tuple = c.args.tuple in
+    let held : length register.tuple.lanes ≡ 4 = search (rules, unmapped) in
+    let asked : length tuple.lanes ≡ 4 = search (rules, unmapped) in
+    c.eq.ensures ∙ same_by_lanes register tuple held asked
