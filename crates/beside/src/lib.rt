@@ -5,12 +5,12 @@
 
 mod same;
 
-ghost use Rattle.std.specs.Prelude.{◌≡◌, eqb, ◌&&◌, get_or};
+ghost use Rattle.std.specs.Prelude.{◌≡◌, get_or, take};
 ghost use Rattle.memory.specs.Lent.{lent};
 ghost use Rattle.run_block.specs.Answers.{answer as ran};
-ghost use Rattle.beside.specs.Same.{same_ends};
-ghost use Rattle.beside.specs.Beside.{list_run, side_by_side, answer};
+ghost use Rattle.beside.specs.Beside.{list_run, both_alike, side_by_side, answer};
 
+use maker::Made;
 use run_block::Ran;
 
 // What comes back: three statuses, the size of the list, the price that was reported of it, what each run
@@ -27,46 +27,49 @@ pub struct Beside {
     pub same: bool,
 }
 
-// A list that was not made is not run.
-fn run_made(bytes: &[u8], status: u8, list: &[u8], variables: &mut [u32], cells: &mut [u32]) -> Ran
+// A list that was not made is not run. Numbers and no `Result`s: `Beside` has the number of each of the three
+// calls, so that each result would only be turned into its number again.
+#[tactic(auto, using(crate::proofs::Running::not_run, crate::proofs::Running::made_run))]
+fn run_made(bytes: &[u8], made: Made, room: &[u8], variables: &mut [u32], cells: &mut [u32]) -> Ran
     ensures { ran result (lent variables.new cells.new)
-        ≡ list_run bytes.now status list.now (lent variables.old cells.old) }
+        ≡ list_run bytes.now made.status (take made.size room.now) (lent variables.old cells.old) }
 {
-    if status != 0 {
-        return Ran { status, price: 0 };
+    if made.status != 0 {
+        return Ran {
+            status: made.status,
+            price: 0,
+        };
     }
-    nephinor::run_list(bytes, list, variables, cells)
+    let end = made.size.min(room.len());
+    nephinor::run_list(bytes, &room[..end], variables, cells)
 }
 
 // Both ran, and ended alike.
 fn both_alike(
     bytes: &[u8],
-    block: u8,
-    list: u8,
+    block: Ran,
+    list: Ran,
     block_variables: &[u32],
     block_cells: &[u32],
     list_variables: &[u32],
     list_cells: &[u32],
 ) -> bool
-    ensures { result ≡ (eqb block 0 && eqb list 0
-        && same_ends (get_or bytes.now 4 0) (lent block_variables.now block_cells.now)
-        (lent list_variables.now list_cells.now)) }
+    ensures { result ≡ both_alike (get_or bytes.now 4 0) (ran block (lent block_variables.now block_cells.now))
+        (ran list (lent list_variables.now list_cells.now)) }
 {
-    if block == 0 {
-        if list == 0 {
-            return same::same_ends(
-                bytes,
-                block_variables,
-                block_cells,
-                list_variables,
-                list_cells,
-            );
-        }
-    }
-    false
+    block.status == 0
+        && list.status == 0
+        && same::same_ends(
+            bytes,
+            block_variables,
+            block_cells,
+            list_variables,
+            list_cells,
+        )
 }
 
 // Makes the list, runs the block on one copy of the contents and the list on the other.
+#[tactic(auto, using(crate::proofs::Running::together))]
 pub fn side_by_side(
     bytes: &[u8],
     room: &mut [u8],
@@ -81,25 +84,22 @@ pub fn side_by_side(
         (lent list_variables.old list_cells.old) }
 {
     let made = nephinor::make_list(bytes, room);
-    let status = made.status;
-    let size = made.size;
-    let end = same::at_most(size, room.len());
     let block = nephinor::run_block(bytes, block_variables, block_cells);
-    let list = run_made(bytes, status, &room[..end], list_variables, list_cells);
+    let list = run_made(bytes, made, room, list_variables, list_cells);
     let same = both_alike(
         bytes,
-        block.status,
-        list.status,
+        block,
+        list,
         block_variables,
         block_cells,
         list_variables,
         list_cells,
     );
     Beside {
-        made: status,
+        made: made.status,
         block: block.status,
         list: list.status,
-        size,
+        size: made.size,
         reported: made.list,
         block_paid: block.price,
         list_paid: list.price,

@@ -3,4 +3,3 @@ pub mod Whole
 pub mod Determined
 pub mod Answers
 pub mod Tables
-pub mod Making

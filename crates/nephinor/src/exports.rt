@@ -4,7 +4,18 @@
 ghost use Rattle.std.specs.Prelude.{◌≡◌};
 ghost use Rattle.memory.specs.Lent.{lent};
 ghost use Rattle.meaning.specs.Calls.{read_block_call, run_block_call, run_list_call, make_list_call};
+ghost use Rattle.meaning.specs.Refusals.{number_of, needed_of};
+ghost use Rattle.nephinor.specs.Packed.{packed};
 ghost use Rattle.nephinor.specs.Exports.{ran_packed, table_read, table_written, made_packed};
+
+use meaning::Refusal;
+
+// A refusal that is found here: the table is short.
+fn refused(refusal: Refusal) -> u64
+    ensures { result ≡ packed (number_of refusal) (needed_of refusal) 0 0 }
+{
+    crate::packed::pack(refusal.number(), refusal.needed(), 0, 0)
+}
 
 // A block's bytes read into a table of 652 numbers (table/specs/Table.antt).
 pub fn nephinor_read_block(bytes: &[u8], numbers: &mut [u32]) -> u64
@@ -16,10 +27,9 @@ pub fn nephinor_read_block(bytes: &[u8], numbers: &mut [u32]) -> u64
         return crate::packed::pack(status, 0, 0, 0);
     }
     if numbers.len() < 652 {
-        return crate::packed::pack(7, 652, 0, 0);
+        return refused(Refusal::Room { needed: 652 });
     }
-    let block = read.block;
-    table::put::put_block(block, numbers);
+    table::put::put_block(read.block, numbers);
     crate::packed::pack(0, 652, 0, 0)
 }
 
@@ -28,7 +38,7 @@ pub fn nephinor_write_block(numbers: &[u32], room: &mut [u8]) -> u64
     ensures { record { number = result; room = room.new } ≡ table_written numbers.now room.old }
 {
     if numbers.len() < 652 {
-        return crate::packed::pack(2, 0, 0, 0);
+        return refused(Refusal::Length);
     }
     let block = table::taken::take_block(numbers);
     let written = crate::write_block(block, room);

@@ -1,11 +1,8 @@
--- `exports::nephinor_write_block` meets its contract: refused for its size, or written as the block that the numbers say.
-use Rattle.nephinor.proofs.Answers.{short_written, table_written_lem}
+-- `exports::nephinor_write_block` meets its contract: written as the block that the numbers say.
+use Rattle.nephinor.proofs.Answers.{table_written_lem}
 use Rattle.nephinor.proofs.exports.nephinor_write_block.Goals as goal
-
-pub returns-then-numbers-lt652 : goal.returns-then-numbers-lt652
-returns-then-numbers-lt652 c = short_written c.args.numbers.now c.args.room.now _ c.if-numbers-lt652.true c.pack.ensures
 
 pub returns : goal.returns
 returns c =
     table_written_lem c.args.numbers.now c.args.room.now _ _ _ c.if-numbers-lt652.false c.take_block-block.ensures c.write_block-written.ensures
-    c.pack-2.ensures
+    c.pack.ensures
