@@ -54,10 +54,8 @@ pub fn put_account(out: &mut [u8], bytes: &[u8]) -> usize
     ensures { Puts (explained bytes.now) out.old 0 out.new result }
 {
     let read = reader::read_block(bytes);
-    let status = read.status;
-    if status != 0 {
-        return answers::put_refusal(out, 0, status);
+    if read.status != 0 {
+        return answers::put_refusal(out, 0, read.status);
     }
-    let block = read.block;
-    put_block(out, 0, block, bytes)
+    put_block(out, 0, read.block, bytes)
 }

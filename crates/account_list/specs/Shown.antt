@@ -7,7 +7,8 @@ use Rattle.meaning.specs.declared.Place.TheVariants.{Variable, Cell}
 use Rattle.meaning.specs.declared.Statement.{Statement}
 use Rattle.meaning.specs.List.{Instruction as Meaning}
 use Rattle.instructions.specs.declared.Instruction.{Instruction}
-use Rattle.instructions.specs.declared.Instruction.TheVariants.{Broken, S, L, C, G, Copy, O, W, D, X}
+use Rattle.instructions.specs.declared.Instruction.TheVariants.{S, L, C, G, Copy, O, W, D, X}
+use Rattle.instructions.specs.Meant.{number_named}
 use Rattle.instructions.specs.Next.{instruction_at, end_at}
 use Rattle.rules.specs.Price.{price_meant}
 use Rattle.text.specs.Text.{words, decimal, no_line}
@@ -16,16 +17,7 @@ use Rattle.account_list.specs.Instructions.{register_text, lane_text, row_text, 
 
 -- the number of the statement that S names; 0 where none is named
 abbrev pub number_of : Instruction → ℕ
-number_of Broken = 0
-number_of (S number) = number
-number_of (L r k a i) = 0
-number_of (C r k c₀ c₁ c₂ c₃) = 0
-number_of (G r k o₀ o₁ o₂ o₃) = 0
-number_of (Copy r k ra) = 0
-number_of (O r operation k ra rb) = 0
-number_of (W r k a i) = 0
-number_of (D r lane a i) = 0
-number_of (X r lane v) = 0
+number_of i = number_named i
 
 -- a slot past the lanes is not shown
 abbrev pub slot_text : ℕ → ℕ → List ℕ → List ℕ
@@ -36,7 +28,6 @@ slots_text k t₀ t₁ t₂ t₃ = slot_text k 0 t₀ ++ slot_text k 1 t₁ ++ s
 
 -- an instruction as it was read, with the statement that S names
 unfoldable pub shown : Instruction → Statement → List ℕ
-shown Broken s = words "broken"
 shown (S number) s = words "S " ++ decimal number ++ words ": " ++ statement_text s
 shown (L r k a i) s = words "L " ++ register_text r ++ words " =" ++ row_text k a i
 shown (C r k c₀ c₁ c₂ c₃) s = words "C " ++ register_text r ++ words " =" ++ slots_text k (decimal c₀) (decimal c₁) (decimal c₂) (decimal c₃)

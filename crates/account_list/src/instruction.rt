@@ -1,7 +1,6 @@
 // One instruction as text: the letter of its code, what it writes, and from what.
 
 ghost use Rattle.std.specs.Prelude.{◌++◌};
-ghost use Rattle.meaning.specs.declared.Place.TheVariants.{Variable, Cell};
 ghost use Rattle.text.specs.Text.{words, decimal};
 ghost use Rattle.text.specs.Puts.{Puts};
 ghost use Rattle.named.specs.Names.{place_text, operand_text, operation_text, statement_text};
@@ -16,7 +15,7 @@ fn put_s(out: &mut [u8], at: usize, number: u8, statement: Statement) -> usize
     ensures { Puts (words "S " ++ decimal number ++ words ": " ++ statement_text statement) out.old at out.new result }
 {
     let behind_letter = text::put_words(out, at, b"S ");
-    let behind_number = text::put_decimal(out, behind_letter, number as u64);
+    let behind_number = text::put_decimal(out, behind_letter, u64::from(number));
     let behind_colon = text::put_words(out, behind_number, b": ");
     named::put_statement(out, behind_colon, statement)
 }
@@ -30,18 +29,11 @@ fn put_l(out: &mut [u8], at: usize, r: u8, k: u8, array: u8, index: u8) -> usize
     lanes::put_row(out, behind_equals, k, array, index)
 }
 
-fn put_c(out: &mut [u8], at: usize, r: u8, k: u8, c0: u32, c1: u32, c2: u32, c3: u32) -> usize
-    ensures { Puts (words "C " ++ register_text r ++ words " =" ++ slots_text k (decimal c0) (decimal c1) (decimal c2) (decimal c3)) out.old at out.new result }
-{
-    let behind_letter = text::put_words(out, at, b"C ");
-    let behind_register = lanes::put_register(out, behind_letter, r);
-    let behind_equals = text::put_words(out, behind_register, b" =");
-    lanes::put_constants(out, behind_equals, k, c0, c1, c2, c3)
-}
-
-fn put_g(
+// What C and G say, by their letter: a register and what stands in its lanes.
+fn put_slots(
     out: &mut [u8],
     at: usize,
+    letter: &[u8],
     r: u8,
     k: u8,
     o0: Operand,
@@ -49,9 +41,9 @@ fn put_g(
     o2: Operand,
     o3: Operand,
 ) -> usize
-    ensures { Puts (words "G " ++ register_text r ++ words " =" ++ slots_text k (operand_text o0) (operand_text o1) (operand_text o2) (operand_text o3)) out.old at out.new result }
+    ensures { Puts (letter.now ++ register_text r ++ words " =" ++ slots_text k (operand_text o0) (operand_text o1) (operand_text o2) (operand_text o3)) out.old at out.new result }
 {
-    let behind_letter = text::put_words(out, at, b"G ");
+    let behind_letter = text::put_words(out, at, letter);
     let behind_register = lanes::put_register(out, behind_letter, r);
     let behind_equals = text::put_words(out, behind_register, b" =");
     lanes::put_operands(out, behind_equals, k, o0, o1, o2, o3)
@@ -84,21 +76,13 @@ fn put_w(out: &mut [u8], at: usize, r: u8, k: u8, array: u8, index: u8) -> usize
     lanes::put_register(out, behind_equals, r)
 }
 
-fn put_d(out: &mut [u8], at: usize, r: u8, lane: u8, array: u8, index: u8) -> usize
-    ensures { Puts (words "D " ++ place_text (Cell array index) ++ words " = " ++ lane_text r lane) out.old at out.new result }
+// What D and X say, by their letter: a place, and the lane that is stored there.
+fn put_stored(out: &mut [u8], at: usize, letter: &[u8], place: Place, r: u8, lane: u8) -> usize
+    ensures { Puts (letter.now ++ place_text place ++ words " = " ++ lane_text r lane) out.old at out.new result }
 {
-    let behind_letter = text::put_words(out, at, b"D ");
-    let behind_cell = named::put_place(out, behind_letter, Place::Cell(array, index));
-    let behind_equals = text::put_words(out, behind_cell, b" = ");
-    lanes::put_lane(out, behind_equals, r, lane)
-}
-
-fn put_x(out: &mut [u8], at: usize, r: u8, lane: u8, variable: u8) -> usize
-    ensures { Puts (words "X " ++ place_text (Variable variable) ++ words " = " ++ lane_text r lane) out.old at out.new result }
-{
-    let behind_letter = text::put_words(out, at, b"X ");
-    let behind_variable = named::put_place(out, behind_letter, Place::Variable(variable));
-    let behind_equals = text::put_words(out, behind_variable, b" = ");
+    let behind_letter = text::put_words(out, at, letter);
+    let behind_place = named::put_place(out, behind_letter, place);
+    let behind_equals = text::put_words(out, behind_place, b" = ");
     lanes::put_lane(out, behind_equals, r, lane)
 }
 
@@ -112,7 +96,6 @@ pub fn put_instruction(
     ensures { Puts (shown instruction statement) out.old at out.new result }
 {
     match instruction {
-        Instruction::Broken => text::put_words(out, at, b"broken"),
         Instruction::S { number } => put_s(out, at, number, statement),
         Instruction::L { r, k, array, index } => put_l(out, at, r, k, array, index),
         Instruction::C {
@@ -122,7 +105,17 @@ pub fn put_instruction(
             c1,
             c2,
             c3,
-        } => put_c(out, at, r, k, c0, c1, c2, c3),
+        } => put_slots(
+            out,
+            at,
+            b"C ",
+            r,
+            k,
+            Operand::Constant(c0),
+            Operand::Constant(c1),
+            Operand::Constant(c2),
+            Operand::Constant(c3),
+        ),
         Instruction::G {
             r,
             k,
@@ -130,14 +123,14 @@ pub fn put_instruction(
             o1,
             o2,
             o3,
-        } => put_g(out, at, r, k, o0, o1, o2, o3),
-        Instruction::Copy { r, k: _, ra } => put_copy(out, at, r, ra),
+        } => put_slots(out, at, b"G ", r, k, o0, o1, o2, o3),
+        Instruction::Copy { r, ra, .. } => put_copy(out, at, r, ra),
         Instruction::O {
             r,
             operation,
-            k: _,
             ra,
             rb,
+            ..
         } => put_o(out, at, r, operation, ra, rb),
         Instruction::W { r, k, array, index } => put_w(out, at, r, k, array, index),
         Instruction::D {
@@ -145,7 +138,14 @@ pub fn put_instruction(
             lane,
             array,
             index,
-        } => put_d(out, at, r, lane, array, index),
-        Instruction::X { r, lane, variable } => put_x(out, at, r, lane, variable),
+        } => put_stored(out, at, b"D ", Place::Cell(array, index), r, lane),
+        Instruction::X { r, lane, variable } => put_stored(
+            out,
+            at,
+            b"X ",
+            Place::Variable(variable),
+            r,
+            lane,
+        ),
     }
 }

@@ -13,7 +13,7 @@ pub fn put_register(out: &mut [u8], at: usize, r: u8) -> usize
     ensures { Puts (register_text r) out.old at out.new result }
 {
     let behind = text::put_words(out, at, b"R");
-    text::put_decimal(out, behind, r as u64)
+    text::put_decimal(out, behind, u64::from(r))
 }
 
 pub fn put_lane(out: &mut [u8], at: usize, r: u8, lane: u8) -> usize
@@ -21,15 +21,16 @@ pub fn put_lane(out: &mut [u8], at: usize, r: u8, lane: u8) -> usize
 {
     let behind_register = put_register(out, at, r);
     let behind_dot = text::put_words(out, behind_register, b".");
-    text::put_decimal(out, behind_dot, lane as u64)
+    text::put_decimal(out, behind_dot, u64::from(lane))
 }
 
 // One cell of a row. The index may be above 255 where the row runs past its array's end.
+// `as`: no `From` leads from usize to u64.
 fn put_cell(out: &mut [u8], at: usize, array: u8, index: usize) -> usize
     ensures { Puts (words " " ++ cell_text array index) out.old at out.new result }
 {
     let behind_letter = text::put_words(out, at, b" A");
-    let behind_array = text::put_decimal(out, behind_letter, array as u64);
+    let behind_array = text::put_decimal(out, behind_letter, u64::from(array));
     let behind_bracket = text::put_words(out, behind_array, b"[");
     let behind_index = text::put_decimal(out, behind_bracket, index as u64);
     text::put_words(out, behind_index, b"]")
@@ -39,37 +40,15 @@ fn put_cell(out: &mut [u8], at: usize, array: u8, index: usize) -> usize
 pub fn put_row(out: &mut [u8], at: usize, k: u8, array: u8, index: u8) -> usize
     ensures { Puts (row_text k array index) out.old at out.new result }
 {
-    let count = k as usize;
-    let first = index as usize;
+    let first = usize::from(index);
     let mut behind = at;
-    let mut i = 0;
-    while i < count {
+    for i in 0..usize::from(k) {
         behind = put_cell(out, behind, array, first + i);
-        i += 1;
     }
     behind
 }
 
 // A slot past the lanes is not shown.
-fn put_constant(out: &mut [u8], at: usize, k: u8, slot: u8, c: u32) -> usize
-    ensures { Puts (slot_text k slot (decimal c)) out.old at out.new result }
-{
-    if k <= slot {
-        return at;
-    }
-    let behind = text::put_words(out, at, b" ");
-    text::put_decimal(out, behind, c as u64)
-}
-
-pub fn put_constants(out: &mut [u8], at: usize, k: u8, c0: u32, c1: u32, c2: u32, c3: u32) -> usize
-    ensures { Puts (slots_text k (decimal c0) (decimal c1) (decimal c2) (decimal c3)) out.old at out.new result }
-{
-    let behind_first = put_constant(out, at, k, 0, c0);
-    let behind_second = put_constant(out, behind_first, k, 1, c1);
-    let behind_third = put_constant(out, behind_second, k, 2, c2);
-    put_constant(out, behind_third, k, 3, c3)
-}
-
 fn put_operand(out: &mut [u8], at: usize, k: u8, slot: u8, o: Operand) -> usize
     ensures { Puts (slot_text k slot (operand_text o)) out.old at out.new result }
 {
@@ -80,6 +59,7 @@ fn put_operand(out: &mut [u8], at: usize, k: u8, slot: u8, o: Operand) -> usize
     named::put_operand(out, behind, o)
 }
 
+// Constants are put as operands too.
 pub fn put_operands(
     out: &mut [u8],
     at: usize,

@@ -1,47 +1,21 @@
 // The section of a list: a line for each record, from the list's bytes and its block.
 
-ghost use Rattle.std.specs.Prelude.{◌≡◌, ◌<◌, ltb};
-ghost use Rattle.basics.specs.Choice.{pick};
+ghost use Rattle.std.specs.Prelude.{◌≡◌};
 ghost use Rattle.meaning.specs.Block.{declared, blank};
+ghost use Rattle.instructions.specs.Meant.{read_meant};
 ghost use Rattle.rules.specs.Price.{price_of};
 ghost use Rattle.text.specs.Puts.{Puts};
 ghost use Rattle.account_list.specs.Instructions.{priced_line};
-ghost use Rattle.account_list.specs.Shown.{number_of, shown, lines_from, list_text};
+ghost use Rattle.account_list.specs.Shown.{shown, line_meant, lines_from, list_text};
 
 use crate::instruction;
 use instructions::Instruction;
 use meaning::{Block, Operand, Place, Statement};
 
-// The number of the statement that S names.
-fn statement_number(i: Instruction) -> u8
-    ensures { result ≡ number_of i }
+// What stands where no statement is declared.
+fn no_statement() -> Statement
+    ensures { result ≡ blank }
 {
-    match i {
-        Instruction::S { number } => number,
-        _ => 0,
-    }
-}
-
-// A slot of the 64, the first for a number that is none of theirs.
-fn slot(number: u8) -> usize
-    ensures { (result ≡ pick (ltb number 64) number 0) × (result < 64) }
-{
-    let n = number as usize;
-    if n < 64 {
-        return n;
-    }
-    0
-}
-
-// What stands in a slot is a statement of the block only below its count.
-fn declared_or_blank(statement: Statement, number: u8, count: u8) -> Statement
-    ensures { result ≡ pick (ltb number 64) (pick (ltb number count) statement blank) blank }
-{
-    if number < 64 {
-        if number < count {
-            return statement;
-        }
-    }
     Statement {
         operation: 0,
         destination: Place::Variable(0),
@@ -51,6 +25,7 @@ fn declared_or_blank(statement: Statement, number: u8, count: u8) -> Statement
 }
 
 // An instruction and its price, as a line of the section.
+// `as`: no `From` leads from usize to u64.
 fn put_line(out: &mut [u8], at: usize, instruction: Instruction, statement: Statement) -> usize
     ensures { Puts (priced_line (shown instruction statement) (price_of instruction statement)) out.old at out.new result }
 {
@@ -67,24 +42,34 @@ fn put_line(out: &mut [u8], at: usize, instruction: Instruction, statement: Stat
     text::put_words(out, behind_price, b")\n")
 }
 
+// What a record was read as, beside the declared statements, as a line of the section.
+fn put_record(
+    out: &mut [u8],
+    at: usize,
+    statements: &[Statement],
+    read: Option<Instruction>,
+) -> usize
+    ensures { Puts (line_meant statements.now (read_meant read)) out.old at out.new result }
+{
+    let Some(instruction) = read else {
+        return text::put_words(out, at, b"  broken (price 0)\n");
+    };
+    let number = usize::from(instructions::statement_number(instruction));
+    let statement = slices::at_or(statements, number, no_statement());
+    put_line(out, at, instruction, statement)
+}
+
 // So many records, which begin behind the fourth byte.
 fn put_records(out: &mut [u8], at: usize, block: Block, list: &[u8], count: usize) -> usize
     ensures { Puts (lines_from (declared block).statements list.now count 4) out.old at out.new result }
 {
-    let declared = block.count;
+    let statements = &block.statements[..run_block::at_most(block.count, 64)];
     let mut behind = at;
-    let mut start: usize = 4;
-    let mut i: usize = 0;
-    while i < count {
+    let mut start = 4;
+    for _record in 0..count {
         let next = instructions::next_instruction(list, start);
-        let instruction = next.instruction;
-        let number = statement_number(instruction);
-        let named = slot(number);
-        let there = block.statements[named];
-        let statement = declared_or_blank(there, number, declared);
-        behind = put_line(out, behind, instruction, statement);
+        behind = put_record(out, behind, statements, next.instruction);
         start = next.end;
-        i += 1;
     }
     behind
 }
@@ -93,9 +78,9 @@ fn put_records(out: &mut [u8], at: usize, block: Block, list: &[u8], count: usiz
 pub fn put_instructions(out: &mut [u8], at: usize, block: Block, list: &[u8]) -> usize
     ensures { Puts (list_text (declared block).statements list.now) out.old at out.new result }
 {
-    let count = instructions::field(list, 3);
+    let count = slices::at_or(list, 3, 0);
     if count == 0 {
         return text::put_words(out, at, b"  none\n");
     }
-    put_records(out, at, block, list, count as usize)
+    put_records(out, at, block, list, usize::from(count))
 }

@@ -1,16 +1,17 @@
 -- The lines of statements, one after the other: what a loop at statement i has still to put.
 use mathlib.Core.Path.{◌≡◌, refl, ap, ◌∙◌}
 use mathlib.Core.List.{List, [], ◌∷◌, ◌++◌}
-use Prim.Native.Nat.{ℕ, ◌+◌, ◌≤◌, ◌<◌, min}
-use lib.ListN.{length, get_or, take, drop}
-use Rattle.basics.proofs.Remaining.{still, none_within}
+use Prim.Native.Nat.{ℕ, ◌+◌, ◌≤◌, ◌<◌}
+use native.Mathlib.Numerals.{add-one}
+use lib.ListN.{length, get_or, drop, drop_of_length-le}
+use lib.Seq.{drop-cons}
 use Rattle.meaning.specs.declared.Statement.{Statement}
 use Rattle.meaning.specs.Block.{blank}
 use Rattle.account_statements.specs.Statements.{statement_line, numbered_lines, lines_or_none}
 
--- of the first `count` statements, the lines from number i on
-abbrev pub lines_from : List Statement → ℕ → ℕ → List ℕ
-lines_from slots count i = numbered_lines i (drop i (take count slots))
+-- of these statements, the lines from number i on
+abbrev pub lines_from : List Statement → ℕ → List ℕ
+lines_from ss i = numbered_lines i (drop i ss)
 
 lines_more : (i : ℕ) (s : Statement) (ss : List Statement) → numbered_lines i (s ∷ ss) ≡ statement_line i s ++ numbered_lines (i + 1) ss
 unfolding numbered_lines
@@ -20,16 +21,11 @@ lines_end : (i : ℕ) → numbered_lines i [] ≡ []
 unfolding numbered_lines
 lines_end i = refl
 
-pub lines_next :
-    (slots : List Statement) (count i : ℕ)
-    → i < count
-    → i < length slots
-    → lines_from slots count i ≡ statement_line i (get_or slots i blank) ++ lines_from slots count (i + 1)
-lines_next slots count i low within =
-    ap (numbered_lines i) (still slots count i blank low within) ∙ lines_more i (get_or slots i blank) (drop (i + 1) (take count slots))
+pub lines_next : (ss : List Statement) (i : ℕ) → i < length ss → lines_from ss i ≡ statement_line i (get_or ss i blank) ++ lines_from ss (i + 1)
+lines_next ss i within = ap (numbered_lines i) (rw add-one (drop-cons ss i blank within)) ∙ lines_more i (get_or ss i blank) (drop (i + 1) ss)
 
-pub lines_none : (slots : List Statement) (count i : ℕ) → min count (length slots) ≤ i → lines_from slots count i ≡ []
-lines_none slots count i past = ap (numbered_lines i) (none_within slots count i past) ∙ lines_end i
+pub lines_none : (ss : List Statement) (i : ℕ) → length ss ≤ i → lines_from ss i ≡ []
+lines_none ss i past = ap (numbered_lines i) (drop_of_length-le ss past) ∙ lines_end i
 
 -- where there is a statement, its line stands and not "none"
 pub some_lines : (ss : List Statement) → (length ss ≡ 0 → ⊥) → lines_or_none ss ≡ numbered_lines 0 ss

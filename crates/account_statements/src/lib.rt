@@ -14,9 +14,9 @@ fn put_variables(out: &mut [u8], at: usize, variables: u8, live: u8) -> usize
     ensures { Puts (variables_text variables live) out.old at out.new result }
 {
     let behind_head = text::put_words(out, at, b"Block: variables ");
-    let behind_variables = text::put_decimal(out, behind_head, variables as u64);
+    let behind_variables = text::put_decimal(out, behind_head, u64::from(variables));
     let behind_words = text::put_words(out, behind_variables, b", live out ");
-    let behind_live = text::put_decimal(out, behind_words, live as u64);
+    let behind_live = text::put_decimal(out, behind_words, u64::from(live));
     text::put_words(out, behind_live, b", arrays ")
 }
 
@@ -57,11 +57,8 @@ fn put_numbered(out: &mut [u8], at: usize, block: Block) -> usize
 {
     let n = run_block::at_most(block.count, 64);
     let mut behind = at;
-    let mut i: usize = 0;
-    while i < n {
-        let s = block.statements[i];
-        behind = put_line(out, behind, i, s);
-        i += 1;
+    for (i, s) in block.statements[..n].iter().enumerate() {
+        behind = put_line(out, behind, i, *s);
     }
     behind
 }

@@ -1,24 +1,24 @@
 -- One turn of each loop over lanes, along a chain and over words; and what is said of one unit, by the tests that the code makes.
-use mathlib.Core.Path.{◌≡◌, refl, sym, ap, ap₂, ◌∙◌}
+use mathlib.Core.Path.{◌≡◌, refl, sym, ap, ◌∙◌}
 use mathlib.Core.Bool.{Bool, true, false}
+use mathlib.Core.Logic.{◌⊎◌, inl, inr}
 use mathlib.Core.List.{List, [], ◌∷◌, ◌++◌}
-use Prim.Native.Nat.{ℕ, suc, ◌+◌, ◌-◌, ◌≤◌, ◌<◌, min}
+use Prim.Native.Nat.{ℕ, zero, suc, ◌+◌, ◌-◌, ◌≤◌, ◌<◌, min}
 use native.Mathlib.Nat.{sub-zero}
 use native.Mathlib.Omega.{arith}
-use lib.Dec.{ltb}
+use lib.Dec.{eqb}
 use lib.ListN.{length, get_or, drop}
 use lib.Seq.{drop-drop}
-use borrow.Author.Tests.{lt-ltb, le-ltb, eq-eqb, ne_eqb}
-use Rattle.basics.specs.Choice.{pick}
-use Rattle.basics.specs.Sets.{has}
+use borrow.Author.Tests.{eq-eqb, ne_eqb}
+use Rattle.std.specs.Bool.{MatchBool}
+use Rattle.basics.proofs.Tests.{below_or_not}
 use Rattle.basics.proofs.Counting.{more, none_left}
 use Rattle.basics.proofs.Remaining.{still, none_within}
 use Rattle.text.specs.Puts.{Puts}
 use Rattle.text.proofs.Putting.{Putting, start, next, finish}
 use Rattle.units.specs.declared.Unit.{Unit as Lanes}
-use Rattle.units.specs.Lanes.{word_lanes}
-use Rattle.account_units.specs.Lines.{number_text, numbers_text, numbers_line}
-use Rattle.account_units.specs.InTables.{chain_in, chain_line, unit_numbers, word_line, pack_line, among_from, dissolved_line}
+use Rattle.account_units.specs.Lines.{number_text, numbers_text}
+use Rattle.account_units.specs.InTables.{chain_in, unit_numbers, among_from}
 
 -- numbers of which those in front of number i are put
 abbrev pub Numbering : List ℕ → ℕ → List ℕ → ℕ → List ℕ → ℕ → ℕ → Type 0
@@ -93,57 +93,35 @@ module _ (count : ℕ) (table : List ℕ) (s : ℕ) {before : List ℕ} {at : �
     pub along_full : count ≤ i → Puts (numbers_text (chain_in count table s)) before at out' behind'
     along_full h = ended (ap (λ (k : ℕ). chain_in k table here) (none_left count i h) ∙ chain_last table here)
 
--- the line of a chain that begins at s, and where none begins
-pub chain_right : (table : List ℕ) (rights size s : ℕ) → has rights s ≡ true → [] ≡ chain_line table rights size s
-chain_right table rights size s right = rw right
-
-pub chain_single : (table : List ℕ) (rights size s t : ℕ) → has rights s ≡ false → t ≡ get_or table s 64 → t ≡ 64 → [] ≡ chain_line table rights size s
-chain_single table rights size s t free e none = rw (free, ← e, eq-eqb t 64 none)
-
-pub chain_said : (table : List ℕ) (rights size s t : ℕ) → has rights s ≡ false → t ≡ get_or table s 64 → (t ≡ 64 → ⊥)
-    → numbers_line (chain_in size table s) ≡ chain_line table rights size s
-chain_said table rights size s t free e some = rw (free, ← e, ne_eqb t 64 some)
-
--- the line of a pack that goes by s, and where none does
-pub pack_said : (table : List ℕ) (waiting s : ℕ) (unit : Lanes) → has waiting s ≡ true → unit ≡ word_lanes (get_or table s 0) → 1 < unit.count
-    → numbers_line (unit_numbers unit) ≡ pack_line table waiting s
-pack_said table waiting s unit waits e several =
-    ap (λ (u : Lanes). numbers_line (unit_numbers u)) e
-    ∙ sym (ap₂ (λ (waits pack : Bool). pick waits (pick pack (word_line (get_or table s 0)) []) []) waits
-    (ap (λ (u : Lanes). ltb 1 u.count) (sym e) ∙ lt-ltb 1 unit.count several))
-
-pub pack_single : (table : List ℕ) (waiting s : ℕ) (unit : Lanes) → has waiting s ≡ true → unit ≡ word_lanes (get_or table s 0) → unit.count ≤ 1
-    → [] ≡ pack_line table waiting s
-pack_single table waiting s unit waits e one =
-    sym (ap₂ (λ (waits pack : Bool). pick waits (pick pack (word_line (get_or table s 0)) []) []) waits
-    (ap (λ (u : Lanes). ltb 1 u.count) (sym e) ∙ le-ltb 1 unit.count one))
-
-pub pack_absent : (table : List ℕ) (waiting s : ℕ) → has waiting s ≡ false → [] ≡ pack_line table waiting s
-pack_absent table waiting s none = rw none
-
--- a word is looked for: it is found, or it is among those behind, or there is none behind
-pub among_start : (size : ℕ) (scheduled : List ℕ) (word : ℕ) → among_from size 0 scheduled word ≡ among_from (size - 0) 0 scheduled word
-among_start size scheduled word = ap (λ (k : ℕ). among_from k 0 scheduled word) (sym (sub-zero size))
-
-module _ (size : ℕ) (scheduled : List ℕ) (word i w : ℕ) where
-  pub among_found : i < size → w ≡ get_or scheduled i 0 → w ≡ word → among_from (size - i) i scheduled word ≡ true
+-- a word is among those from number i on where it is at one of these numbers
+module _ (scheduled : List ℕ) (word : ℕ) where
+  here_or_behind :
+      (n i k : ℕ) → get_or scheduled k 0 ≡ word → (i < k) ⊎ (k ≤ i) → i ≤ k → (i < k → among_from n (i + 1) scheduled word ≡ true)
+      → among_from (suc n) i scheduled word ≡ true
   unfolding among_from
-  among_found h e same = rw (more size i h, ← e, eq-eqb w word same, among_from)
+  here_or_behind n i k e (inl further) low behind = or_behind (eqb (get_or scheduled i 0) word) (among_from n (i + 1) scheduled word) (behind further)
+    where
+      or_behind : (test more : Bool) → more ≡ true → elim test [ true ↦ true | false ↦ more ] ≡ true
+      or_behind true more rest = refl
+      or_behind false more rest = rest
+  here_or_behind n i k e (inr here) low behind =
+      let same : i ≡ k = omega arith in
+      rw (eq-eqb (get_or scheduled i 0) word (ap (λ (j : ℕ). get_or scheduled j 0) same ∙ e), among_from)
 
-  pub among_further : i < size → w ≡ get_or scheduled i 0 → (w ≡ word → ⊥) → among_from (size - i) i scheduled word ≡ among_from (size - (i + 1)) (i + 1) scheduled word
+  among_there : (n i k : ℕ) → i ≤ k → k < i + n → get_or scheduled k 0 ≡ word → among_from n i scheduled word ≡ true
+  among_there zero i k low high e = absurd (omega arith)
+  among_there (suc n) i k low high e =
+      here_or_behind n i k e (below_or_not i k) low (λ further. among_there n (i + 1) k (omega (arith, further)) (omega arith) e)
+
+  among_not : (n i : ℕ) → ((k : ℕ) → k < i + n → get_or scheduled k 0 ≡ word → ⊥) → among_from n i scheduled word ≡ false
   unfolding among_from
-  among_further h e differ = rw (more size i h, ← e, ne_eqb w word differ, among_from)
+  among_not zero i absent = refl
+  among_not (suc n) i absent =
+      rw (ne_eqb (get_or scheduled i 0) word (absent i (omega arith)), among_from) (among_not n (i + 1) (λ k h. absent k (omega arith)))
 
-  pub among_none : size ≤ i → among_from (size - i) i scheduled word ≡ false
-  unfolding among_from
-  among_none h = rw (none_left size i h)
-
--- the line of a pack that was dissolved
-pub dissolved_not : (table : List ℕ) (waiting : ℕ) (scheduled : List ℕ) (size s : ℕ) → among_from size 0 scheduled (get_or table s 0) ≡ true
-    → [] ≡ dissolved_line table waiting scheduled size s
-dissolved_not table waiting scheduled size s there = rw there
-
-pub dissolved_said : (table : List ℕ) (waiting : ℕ) (scheduled : List ℕ) (size s : ℕ) → among_from size 0 scheduled (get_or table s 0) ≡ false
-    → pack_line table waiting s ≡ dissolved_line table waiting scheduled size s
-dissolved_said table waiting scheduled size s absent =
-    ap (λ (test : Bool). pick test [] (pack_line table waiting s)) (sym absent)
+  pub among_found :
+      (n : ℕ) (found : Bool)
+      → MatchBool found ((k : ℕ) × (k < n) × (get_or scheduled k 0 ≡ word)) ((k : ℕ) → k < n → get_or scheduled k 0 ≡ word → ⊥)
+      → found ≡ among_from n 0 scheduled word
+  among_found n true there = sym (among_there n 0 there.0 (omega arith) (omega (arith, there.1)) there.2)
+  among_found n false absent = sym (among_not n 0 (λ k h. absent k (omega arith)))

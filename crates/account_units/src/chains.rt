@@ -19,10 +19,8 @@ fn put_pair_lines(out: &mut [u8], at: usize, order: &[u8], next: &[u8], count: u
     ensures { Puts (pair_lines_in order.now next.now count) out.old at out.new result }
 {
     let mut behind = at;
-    let mut i: usize = 0;
-    while i < count {
+    for i in 0..count {
         behind = put_pair(out, behind, order, next, i);
-        i += 1;
     }
     behind
 }
@@ -30,9 +28,12 @@ fn put_pair_lines(out: &mut [u8], at: usize, order: &[u8], next: &[u8], count: u
 pub fn put_pairs(out: &mut [u8], at: usize, order: &[u8], next: &[u8], count: usize) -> usize
     ensures { Puts (section pairs_heading (pair_lines_in order.now next.now count)) out.old at out.new result }
 {
-    let start = text::put_words(out, at, b"Admitted pairs, in order:\n");
-    let behind = put_pair_lines(out, start, order, next, count);
-    crate::numbers::put_none(out, start, behind)
+    crate::numbers::put_section(
+        out,
+        at,
+        b"Admitted pairs, in order:\n",
+        |out, start| put_pair_lines(out, start, order, next, count),
+    )
 }
 
 // From s on, along at most `count` pairs.
@@ -41,14 +42,12 @@ fn put_along(out: &mut [u8], at: usize, next: &[u8], count: usize, s: usize) -> 
 {
     let mut behind = at;
     let mut statement = s;
-    let mut i: usize = 0;
-    while i < count {
+    for _i in 0..count {
         behind = crate::numbers::put_number(out, behind, statement);
         statement = rows::number_at(next, statement);
         if statement == rows::NONE {
             return behind;
         }
-        i += 1;
     }
     crate::numbers::put_number(out, behind, statement)
 }
@@ -62,6 +61,7 @@ fn put_chain(out: &mut [u8], at: usize, next: &[u8], count: usize, s: usize) -> 
 }
 
 // A longest chain begins at a statement that is right in no pair.
+#[tactic(auto, using(text::proofs::Putting::nothing))]
 fn put_chain_from(
     out: &mut [u8],
     at: usize,
@@ -72,10 +72,7 @@ fn put_chain_from(
 ) -> usize
     ensures { Puts (chain_line next.now rights count s) out.old at out.new result }
 {
-    if rows::has(rights, s) {
-        return at;
-    }
-    if rows::number_at(next, s) == rows::NONE {
+    if rows::has(rights, s) || rows::number_at(next, s) == rows::NONE {
         return at;
     }
     put_chain(out, at, next, count, s)
@@ -92,10 +89,8 @@ fn put_chain_lines(
     ensures { Puts (chain_lines_in next.now rights count n) out.old at out.new result }
 {
     let mut behind = at;
-    let mut s: usize = 0;
-    while s < n {
+    for s in 0..n {
         behind = put_chain_from(out, behind, next, rights, count, s);
-        s += 1;
     }
     behind
 }
@@ -110,7 +105,10 @@ pub fn put_chains(
 ) -> usize
     ensures { Puts (section chains_heading (chain_lines_in next.now rights count n)) out.old at out.new result }
 {
-    let start = text::put_words(out, at, b"Chains:\n");
-    let behind = put_chain_lines(out, start, next, rights, count, n);
-    crate::numbers::put_none(out, start, behind)
+    crate::numbers::put_section(
+        out,
+        at,
+        b"Chains:\n",
+        |out, start| put_chain_lines(out, start, next, rights, count, n),
+    )
 }

@@ -1,6 +1,6 @@
 -- Which lines and which sentence the tests of the code choose.
 use mathlib.Core.Path.{◌≡◌, sym}
-use mathlib.Core.List.{List, [], ◌++◌, append-nil}
+use mathlib.Core.List.{List, ◌++◌, append-nil}
 use Prim.Native.Nat.{ℕ, ◌≤◌, ◌<◌}
 use borrow.Author.Tests.{lt-ltb, le-ltb, eq-eqb, ne_eqb}
 use lib.ListN.{length}
@@ -27,27 +27,6 @@ module _ (input room : List ℕ) where
 
   pub not_over : length input ≤ 4096 → make_list_call input room ≡ made_of input room
   not_over fits = rw (le-ltb 4096 (length input) fits)
-
--- a number for which there is no sentence
-pub no_sentence :
-    (number : ℕ)
-    → (number ≡ 1 → ⊥)
-    → (number ≡ 2 → ⊥)
-    → (number ≡ 3 → ⊥)
-    → (number ≡ 4 → ⊥)
-    → (number ≡ 5 → ⊥)
-    → (number ≡ 7 → ⊥)
-    → [] ≡ sentence number
-unfolding sentence
-no_sentence number not-1 not-2 not-3 not-4 not-5 not-7 =
-    rw (
-      ne_eqb number 1 not-1,
-      ne_eqb number 2 not-2,
-      ne_eqb number 3 not-3,
-      ne_eqb number 4 not-4,
-      ne_eqb number 5 not-5,
-      ne_eqb number 7 not-7,
-    )
 
 module _ (number given : ℕ) where
   pub too_long_lem : 4096 < given → too_many_bytes ≡ complaint number given

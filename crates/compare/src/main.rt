@@ -12,8 +12,8 @@ use std::io::Write;
 // All that standard output is given, and how many bytes it is.
 fn print(given: &[u8], out: &mut [u8]) -> usize
     requires { 240000 ≤ length out.old }
-    ensures out_after { take result out.new ≡ compared given.now }
-    ensures upper_bound { result ≤ length out.new }
+    ensures text { take result out.new ≡ compared given.now }
+    ensures within { result ≤ length out.new }
 {
     comparison::put_comparison(out, given)
 }

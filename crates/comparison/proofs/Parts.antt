@@ -45,20 +45,24 @@ within_limits bytes slots lengths read e =
     rw e (readable.arrays, (readable.lengths, readable.variables))
 
 -- by the size of the contents
-module _ (bytes lengths : List ℕ) (variables live : ℕ) (rest : List ℕ) (cells : ℕ) (e : cells ≡ sum lengths) where
-  pub wrong_size_lem : (length rest ≡ 4 * (variables + cells) → ⊥) → wrong_size (length rest) (4 * (variables + cells)) ≡ sized_text bytes lengths variables live rest
+module _ (bytes lengths : List ℕ) (variables live : ℕ) (rest : List ℕ) (count cells : ℕ) (e : count ≡ variables) (f : cells ≡ sum lengths) where
+  takes : 4 * (count + cells) ≡ 4 * (variables + sum lengths)
+  takes = ap₂ (λ (m n : ℕ). 4 * (m + n)) e f
+
+  pub wrong_size_lem : (length rest ≡ 4 * (count + cells) → ⊥) → wrong_size (length rest) (4 * (count + cells)) ≡ sized_text bytes lengths variables live rest
   unfolding sized_text
   wrong_size_lem other =
-      ap (λ (n : ℕ). wrong_size (length rest) (4 * (variables + n))) e
-      ∙ rw (ne_eqb (length rest) (4 * (variables + sum lengths)) (λ (same : length rest ≡ 4 * (variables + sum lengths)). other (same ∙ ap (λ (n : ℕ). 4 * (variables + n)) (sym e))))
+      ap (wrong_size (length rest)) takes
+      ∙ rw (ne_eqb (length rest) (4 * (variables + sum lengths)) (λ (same : length rest ≡ 4 * (variables + sum lengths)). other (same ∙ sym takes)))
 
-  pub right_size_lem : length rest ≡ 4 * (variables + cells)
-      → compared_on lengths live bytes room (lent (numbers_in variables rest) (numbers_in cells (take (length rest - 4 * variables) (drop (4 * variables) rest))))
+  pub right_size_lem : length rest ≡ 4 * (count + cells)
+      → compared_on lengths live bytes room (lent (numbers_in count rest) (numbers_in cells (take (length rest - 4 * count) (drop (4 * count) rest))))
       ≡ sized_text bytes lengths variables live rest
   unfolding sized_text
   right_size_lem same =
-      ap₂ (λ (n : ℕ) (behind : List ℕ). compared_on lengths live bytes room (lent (numbers_in variables rest) (numbers_in n behind))) e (take_rest rest (4 * variables))
-      ∙ rw (eq-eqb (length rest) (4 * (variables + sum lengths)) (same ∙ ap (λ (n : ℕ). 4 * (variables + n)) e))
+      ap (λ (m : ℕ). compared_on lengths live bytes room (lent (numbers_in m rest) (numbers_in cells (take (length rest - 4 * m) (drop (4 * m) rest))))) e
+      ∙ ap₂ (λ (n : ℕ) (behind : List ℕ). compared_on lengths live bytes room (lent (numbers_in variables rest) (numbers_in n behind))) f (take_rest rest (4 * variables))
+      ∙ rw (eq-eqb (length rest) (4 * (variables + sum lengths)) (same ∙ takes))
 
 drop_least : (n : ℕ) (l : List ℕ) → drop (min n (length l)) l ≡ drop n l
 drop_least n l = by (below_or_not n (length l))

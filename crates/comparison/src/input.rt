@@ -7,11 +7,8 @@ ghost use Rattle.comparison.specs.Input.{stated, four_in, numbers_in};
 pub fn block_end(given: &[u8]) -> usize
     ensures { result ≡ min (stated given.now) (length given.now) }
 {
-    let end = reader::two(instructions::field(given, 1), instructions::field(given, 2)) as usize;
-    if end < given.len() {
-        return end;
-    }
-    given.len()
+    let stated = u16::from_be_bytes([slices::at_or(given, 1, 0), slices::at_or(given, 2, 0)]);
+    usize::from(stated).min(given.len())
 }
 
 // The number whose four bytes begin at a place.
@@ -19,12 +16,12 @@ fn four_at(bytes: &[u8], at: usize) -> u32
     requires { at ≤ 8192 }
     ensures { result ≡ four_in (drop at bytes.now) }
 {
-    reader::four(
-        instructions::field(bytes, at),
-        instructions::field(bytes, at + 1),
-        instructions::field(bytes, at + 2),
-        instructions::field(bytes, at + 3),
-    )
+    u32::from_be_bytes([
+        slices::at_or(bytes, at, 0),
+        slices::at_or(bytes, at + 1, 0),
+        slices::at_or(bytes, at + 2, 0),
+        slices::at_or(bytes, at + 3, 0),
+    ])
 }
 
 // All of the numbers, from the bytes in order.
@@ -32,9 +29,7 @@ pub fn take_numbers(numbers: &mut [u32], bytes: &[u8])
     requires { length numbers.old ≤ 2048 }
     ensures { numbers.new ≡ numbers_in (length numbers.old) bytes.now }
 {
-    let mut i: usize = 0;
-    while i < numbers.len() {
-        numbers[i] = four_at(bytes, 4 * i);
-        i += 1;
+    for (i, number) in numbers.iter_mut().enumerate() {
+        *number = four_at(bytes, 4 * i);
     }
 }

@@ -22,11 +22,10 @@ fn put_read(out: &mut [u8], block: Block, bytes: &[u8], rest: &[u8]) -> usize
     requires { read_block bytes.now ≡ done (declared block) }
     ensures { Puts (answer_text bytes.now rest.now 0 (done (declared block))) out.old 0 out.new result }
 {
-    let lengths = block.lengths;
     let arrays = run_block::at_most(block.arrays, 8);
     runs::put_sized(
         out,
-        &lengths[..arrays],
+        &block.lengths[..arrays],
         block.variables,
         block.live,
         bytes,
@@ -43,10 +42,8 @@ pub fn put_comparison(out: &mut [u8], given: &[u8]) -> usize
     }
     let end = input::block_end(given);
     let read = reader::read_block(&given[..end]);
-    let status = read.status;
-    if status != 0 {
-        return refusals::put_refusal(out, status, given.len());
+    if read.status != 0 {
+        return refusals::put_refusal(out, read.status, given.len());
     }
-    let block = read.block;
-    put_read(out, block, &given[..end], &given[end..])
+    put_read(out, read.block, &given[..end], &given[end..])
 }

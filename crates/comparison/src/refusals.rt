@@ -31,7 +31,7 @@ pub fn put_wrong_size(out: &mut [u8], given: usize, needed: usize) -> usize
     )
 }
 
-// No input at all also has how the program is used.
+// No input at all also has how the program is used. The clause answers for every number, hence no Refusal.
 pub fn put_refusal(out: &mut [u8], number: u8, given: usize) -> usize
     ensures { Puts (refusal_text number given) out.old 0 out.new result }
 {

@@ -12,12 +12,13 @@ ghost use Rattle.comparison.specs.Lines.{run_line, verdict, beside_text, compare
 ghost use Rattle.comparison.specs.Compared.{room as no_list, sized_text};
 
 use beside::Beside;
+use ends::{Contents, Ends};
 
 fn put_run(out: &mut [u8], at: usize, whose: &[u8], status: u8, price: usize) -> usize
     ensures { Puts (run_line whose.now status price) out.old at out.new result }
 {
     let behind_name = text::put_words(out, at, whose);
-    let behind_status = text::put_decimal(out, behind_name, status as u64);
+    let behind_status = text::put_decimal(out, behind_name, u64::from(status));
     let behind_words = text::put_words(out, behind_status, b", price ");
     text::put_field(out, behind_words, price as u64, b'\n')
 }
@@ -35,22 +36,12 @@ fn put_verdict(out: &mut [u8], at: usize, same: bool) -> usize
     text::put_words(out, at, b"They differ where a line is marked.\n")
 }
 
-fn put_beside(
-    out: &mut [u8],
-    sides: Beside,
-    live: u8,
-    lengths: &[u16],
-    start_variables: &[u32],
-    start_cells: &[u32],
-    block_variables: &[u32],
-    block_cells: &[u32],
-    list_variables: &[u32],
-    list_cells: &[u32],
-) -> usize
-    requires lengths_len_bound { length lengths.now ≤ 8 }
-    requires lengths_value { all length_fits lengths.now ≡ true }
-    ensures { Puts (beside_text lengths.now live (lent start_variables.now start_cells.now)
-        (answer sides [] (lent block_variables.now block_cells.now) (lent list_variables.now list_cells.now)))
+fn put_beside(out: &mut [u8], sides: Beside, live: u8, ends: Ends) -> usize
+    requires few_arrays { length ends.lengths.now ≤ 8 }
+    requires lengths_fit { all length_fits ends.lengths.now ≡ true }
+    ensures { Puts (beside_text ends.entry.lengths.now live (lent ends.entry.start.variables.now ends.entry.start.cells.now)
+        (answer sides [] (lent ends.entry.block.variables.now ends.entry.block.cells.now)
+        (lent ends.entry.list.variables.now ends.entry.list.cells.now)))
         out.old 0 out.new result }
 {
     let behind_block = put_run(out, 0, b"block: status ", sides.block, sides.block_paid);
@@ -66,48 +57,27 @@ fn put_beside(
         behind_list,
         b"              start       block        list\n",
     );
-    let behind_cells = ends::put_cells(
-        out,
-        behind_heading,
-        lengths,
-        start_variables,
-        start_cells,
-        block_variables,
-        block_cells,
-        list_variables,
-        list_cells,
-    );
-    let behind_variables = ends::put_variables(
-        out,
-        behind_cells,
-        live,
-        lengths,
-        start_variables,
-        start_cells,
-        block_variables,
-        block_cells,
-        list_variables,
-        list_cells,
-    );
+    let behind_cells = ends::put_cells(out, behind_heading, ends);
+    let behind_variables = ends::put_variables(out, behind_cells, live, ends);
     put_verdict(out, behind_variables, sides.same)
 }
 
 // The block and its list are run on copies of their own.
-fn put_run_sides(
+fn put_run_sides<'a>(
     out: &mut [u8],
     room: &mut [u8],
     live: u8,
-    lengths: &[u16],
+    lengths: &'a [u16],
     bytes: &[u8],
-    start_variables: &[u32],
-    start_cells: &[u32],
-    block_variables: &mut [u32],
-    block_cells: &mut [u32],
-    list_variables: &mut [u32],
-    list_cells: &mut [u32],
+    start_variables: &'a [u32],
+    start_cells: &'a [u32],
+    block_variables: &'a mut [u32],
+    block_cells: &'a mut [u32],
+    list_variables: &'a mut [u32],
+    list_cells: &'a mut [u32],
 ) -> usize
-    requires lengths_len_bound { length lengths.now ≤ 8 }
-    requires lengths_value { all length_fits lengths.now ≡ true }
+    requires few_arrays { length lengths.now ≤ 8 }
+    requires lengths_fit { all length_fits lengths.now ≡ true }
     ensures { Puts (beside_text lengths.now live (lent start_variables.now start_cells.now)
         (side_by_side bytes.now room.old (lent block_variables.old block_cells.old)
         (lent list_variables.old list_cells.old)))
@@ -121,18 +91,22 @@ fn put_run_sides(
         list_variables,
         list_cells,
     );
-    put_beside(
-        out,
-        sides,
-        live,
+    let ends = Ends {
         lengths,
-        start_variables,
-        start_cells,
-        block_variables,
-        block_cells,
-        list_variables,
-        list_cells,
-    )
+        start: Contents {
+            variables: start_variables,
+            cells: start_cells,
+        },
+        block: Contents {
+            variables: block_variables,
+            cells: block_cells,
+        },
+        list: Contents {
+            variables: list_variables,
+            cells: list_cells,
+        },
+    };
+    put_beside(out, sides, live, ends)
 }
 
 // The contents are taken from the bytes three times.
@@ -151,11 +125,11 @@ fn put_filled(
     list_variables: &mut [u32],
     list_cells: &mut [u32],
 ) -> usize
-    requires lengths_len_bound { length lengths.now ≤ 8 }
-    requires lengths_value { all length_fits lengths.now ≡ true }
-    requires start_variables_len_bound { (length start_variables.old ≤ 2048) × (length start_cells.old ≤ 2048) }
-    requires block_variables_len { (length block_variables.old ≡ length start_variables.old) × (length list_variables.old ≡ length start_variables.old) }
-    requires block_cells_len { (length block_cells.old ≡ length start_cells.old) × (length list_cells.old ≡ length start_cells.old) }
+    requires few_arrays { length lengths.now ≤ 8 }
+    requires lengths_fit { all length_fits lengths.now ≡ true }
+    requires few_to_take { (length start_variables.old ≤ 2048) × (length start_cells.old ≤ 2048) }
+    requires as_many_variables { (length block_variables.old ≡ length start_variables.old) × (length list_variables.old ≡ length start_variables.old) }
+    requires as_many_cells { (length block_cells.old ≡ length start_cells.old) × (length list_cells.old ≡ length start_cells.old) }
     ensures { Puts (compared_on lengths.now live bytes.now room.old
         (lent (numbers_in (length start_variables.old) variable_bytes.now) (numbers_in (length start_cells.old) cell_bytes.now)))
         out.old 0 out.new result }
@@ -192,9 +166,9 @@ fn put_declared(
     variables: usize,
     cells: usize,
 ) -> usize
-    requires lengths_len_bound { length lengths.now ≤ 8 }
-    requires lengths_value { all length_fits lengths.now ≡ true }
-    requires variables_bound { (variables ≤ 32) × (cells ≤ 2048) }
+    requires few_arrays { length lengths.now ≤ 8 }
+    requires lengths_fit { all length_fits lengths.now ≡ true }
+    requires few_places { (variables ≤ 32) × (cells ≤ 2048) }
     ensures { Puts (compared_on lengths.now live bytes.now no_list
         (lent (numbers_in variables variable_bytes.now) (numbers_in cells cell_bytes.now)))
         out.old 0 out.new result }
@@ -232,12 +206,12 @@ pub fn put_sized(
     bytes: &[u8],
     rest: &[u8],
 ) -> usize
-    requires lengths_len_bound { length lengths.now ≤ 8 }
-    requires lengths_value { all length_fits lengths.now ≡ true }
-    requires variables_bound { variables ≤ 32 }
+    requires few_arrays { length lengths.now ≤ 8 }
+    requires lengths_fit { all length_fits lengths.now ≡ true }
+    requires few_variables { variables ≤ 32 }
     ensures { Puts (sized_text bytes.now lengths.now variables live rest.now) out.old 0 out.new result }
 {
-    let count = variables as usize;
+    let count = usize::from(variables);
     let cells = memory::cell_at(lengths, 8, 0);
     let needed = 4 * (count + cells);
     if rest.len() != needed {

@@ -15,126 +15,64 @@ ghost use Rattle.ends.specs.Places.{in_turn, cell_lines, variable_lines};
 
 use meaning::Place;
 
-fn wide(n: u16) -> usize
-    ensures { result ≡ n }
-{
-    n as usize
+// Variables and cells as they were lent.
+#[derive(Clone, Copy)]
+pub struct Contents<'a> {
+    pub variables: &'a [u32],
+    pub cells: &'a [u32],
+}
+
+// The lengths of the arrays, and what the places hold at the start, at the block's end and at the list's end.
+#[derive(Clone, Copy)]
+pub struct Ends<'a> {
+    pub lengths: &'a [u16],
+    pub start: Contents<'a>,
+    pub block: Contents<'a>,
+    pub list: Contents<'a>,
 }
 
 // The cells of one array.
-fn put_array(
-    out: &mut [u8],
-    at: usize,
-    array: u8,
-    count: usize,
-    lengths: &[u16],
-    start_variables: &[u32],
-    start_cells: &[u32],
-    block_variables: &[u32],
-    block_cells: &[u32],
-    list_variables: &[u32],
-    list_cells: &[u32],
-) -> usize
+fn put_array(out: &mut [u8], at: usize, array: u8, count: usize, ends: Ends) -> usize
     requires { count ≤ 256 }
-    ensures { Puts (in_turn (λ i. place_line lengths.now (lent start_variables.now start_cells.now)
-        (lent block_variables.now block_cells.now) (lent list_variables.now list_cells.now) (Cell array i)) count 0)
+    ensures { Puts (in_turn (λ i. place_line ends.entry.lengths.now (lent ends.entry.start.variables.now ends.entry.start.cells.now)
+        (lent ends.entry.block.variables.now ends.entry.block.cells.now)
+        (lent ends.entry.list.variables.now ends.entry.list.cells.now) (Cell array i)) count 0)
         out.old at out.new result }
 {
     let mut behind = at;
-    let mut i: usize = 0;
-    while i < count {
+    for i in 0..count {
         let place = Place::Cell(array, i as u8);
-        behind = line::put_place_line(
-            out,
-            behind,
-            place,
-            lengths,
-            start_variables,
-            start_cells,
-            block_variables,
-            block_cells,
-            list_variables,
-            list_cells,
-        );
-        i += 1;
+        behind = line::put_place_line(out, behind, place, ends);
     }
     behind
 }
 
 // The cells of all arrays.
-pub fn put_cells(
-    out: &mut [u8],
-    at: usize,
-    lengths: &[u16],
-    start_variables: &[u32],
-    start_cells: &[u32],
-    block_variables: &[u32],
-    block_cells: &[u32],
-    list_variables: &[u32],
-    list_cells: &[u32],
-) -> usize
-    requires lengths_len_bound { length lengths.now ≤ 8 }
-    requires lengths_value { all length_fits lengths.now ≡ true }
-    ensures { Puts (cell_lines (place_line lengths.now (lent start_variables.now start_cells.now)
-        (lent block_variables.now block_cells.now) (lent list_variables.now list_cells.now)) 0 lengths.now)
+pub fn put_cells(out: &mut [u8], at: usize, ends: Ends) -> usize
+    requires few_arrays { length ends.lengths.now ≤ 8 }
+    requires lengths_fit { all length_fits ends.lengths.now ≡ true }
+    ensures { Puts (cell_lines (place_line ends.entry.lengths.now (lent ends.entry.start.variables.now ends.entry.start.cells.now)
+        (lent ends.entry.block.variables.now ends.entry.block.cells.now)
+        (lent ends.entry.list.variables.now ends.entry.list.cells.now)) 0 ends.entry.lengths.now)
         out.old at out.new result }
 {
     let mut behind = at;
-    let mut a: usize = 0;
-    while a < lengths.len() {
-        behind = put_array(
-            out,
-            behind,
-            a as u8,
-            wide(lengths[a]),
-            lengths,
-            start_variables,
-            start_cells,
-            block_variables,
-            block_cells,
-            list_variables,
-            list_cells,
-        );
-        a += 1;
+    for (a, length) in ends.lengths.iter().enumerate() {
+        behind = put_array(out, behind, a as u8, usize::from(*length), ends);
     }
     behind
 }
 
 // The live-out variables, which are the first ones.
-pub fn put_variables(
-    out: &mut [u8],
-    at: usize,
-    live: u8,
-    lengths: &[u16],
-    start_variables: &[u32],
-    start_cells: &[u32],
-    block_variables: &[u32],
-    block_cells: &[u32],
-    list_variables: &[u32],
-    list_cells: &[u32],
-) -> usize
-    ensures { Puts (variable_lines (place_line lengths.now (lent start_variables.now start_cells.now)
-        (lent block_variables.now block_cells.now) (lent list_variables.now list_cells.now)) live)
+pub fn put_variables(out: &mut [u8], at: usize, live: u8, ends: Ends) -> usize
+    ensures { Puts (variable_lines (place_line ends.entry.lengths.now (lent ends.entry.start.variables.now ends.entry.start.cells.now)
+        (lent ends.entry.block.variables.now ends.entry.block.cells.now)
+        (lent ends.entry.list.variables.now ends.entry.list.cells.now)) live)
         out.old at out.new result }
 {
-    let count = live as usize;
     let mut behind = at;
-    let mut v: usize = 0;
-    while v < count {
-        let place = Place::Variable(v as u8);
-        behind = line::put_place_line(
-            out,
-            behind,
-            place,
-            lengths,
-            start_variables,
-            start_cells,
-            block_variables,
-            block_cells,
-            list_variables,
-            list_cells,
-        );
-        v += 1;
+    for v in 0..live {
+        behind = line::put_place_line(out, behind, Place::Variable(v), ends);
     }
     behind
 }

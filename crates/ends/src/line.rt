@@ -8,6 +8,7 @@ ghost use Rattle.text.specs.Text.{decimal};
 ghost use Rattle.named.specs.Names.{place_text};
 ghost use Rattle.ends.specs.Line.{name_text, numbers_text, line_end, line, place_line};
 
+use crate::Ends;
 use meaning::Place;
 
 // At most twenty, since the number has 64 bits.
@@ -21,8 +22,8 @@ fn name_length(place: Place) -> usize
     ensures { result ≡ length (place_text place) }
 {
     match place {
-        Place::Variable(v) => 1 + digits(v as u64),
-        Place::Cell(array, index) => 3 + digits(array as u64) + digits(index as u64),
+        Place::Variable(v) => 1 + digits(u64::from(v)),
+        Place::Cell(array, index) => 3 + digits(u64::from(array)) + digits(u64::from(index)),
     }
 }
 
@@ -37,9 +38,9 @@ fn put_name(out: &mut [u8], at: usize, place: Place) -> usize
 fn put_numbers(out: &mut [u8], at: usize, start: u32, block: u32, list: u32) -> usize
     ensures { Puts (numbers_text start block list) out.old at out.new result }
 {
-    let behind_start = text::put_column(out, at, 12, start as u64);
-    let behind_block = text::put_column(out, behind_start, 12, block as u64);
-    text::put_column(out, behind_block, 12, list as u64)
+    let behind_start = text::put_column(out, at, 12, u64::from(start));
+    let behind_block = text::put_column(out, behind_start, 12, u64::from(block));
+    text::put_column(out, behind_block, 12, u64::from(list))
 }
 
 fn put_line_end(out: &mut [u8], at: usize, block: u32, list: u32) -> usize
@@ -60,24 +61,14 @@ fn put_line(out: &mut [u8], at: usize, place: Place, start: u32, block: u32, lis
 }
 
 // The line of a place, from the contents at the start, at the block's end and at the list's end.
-pub fn put_place_line(
-    out: &mut [u8],
-    at: usize,
-    place: Place,
-    lengths: &[u16],
-    start_variables: &[u32],
-    start_cells: &[u32],
-    block_variables: &[u32],
-    block_cells: &[u32],
-    list_variables: &[u32],
-    list_cells: &[u32],
-) -> usize
-    ensures { Puts (place_line lengths.now (lent start_variables.now start_cells.now)
-        (lent block_variables.now block_cells.now) (lent list_variables.now list_cells.now) place)
+pub fn put_place_line(out: &mut [u8], at: usize, place: Place, ends: Ends) -> usize
+    ensures { Puts (place_line ends.entry.lengths.now (lent ends.entry.start.variables.now ends.entry.start.cells.now)
+        (lent ends.entry.block.variables.now ends.entry.block.cells.now)
+        (lent ends.entry.list.variables.now ends.entry.list.cells.now) place)
         out.old at out.new result }
 {
-    let start = memory::fetch_place(place, lengths, start_variables, start_cells);
-    let block = memory::fetch_place(place, lengths, block_variables, block_cells);
-    let list = memory::fetch_place(place, lengths, list_variables, list_cells);
+    let start = memory::fetch_place(place, ends.lengths, ends.start.variables, ends.start.cells);
+    let block = memory::fetch_place(place, ends.lengths, ends.block.variables, ends.block.cells);
+    let list = memory::fetch_place(place, ends.lengths, ends.list.variables, ends.list.cells);
     put_line(out, at, place, start, block, list)
 }

@@ -1,10 +1,10 @@
 -- What is printed in each case, and that the buffer is large enough for it: the bytes that are written are all of the text.
 use mathlib.Core.Path.{◌≡◌}
-use mathlib.Core.Bool.{true}
+use mathlib.Core.Bool.{true, false}
 use mathlib.Core.List.{List, []}
 use Prim.Native.Nat.{ℕ, ◌≤◌, ◌<◌}
 use native.Mathlib.Omega.{arith}
-use borrow.Author.Tests.{lt-ltb, le-ltb, eq-eqb, ne_eqb}
+use borrow.Author.Tests.{lt-ltb, le-ltb}
 use lib.Dec.{eqb, ltb}
 use lib.ListN.{length, get_or, take}
 use Rattle.basics.specs.Lists.{all}
@@ -41,19 +41,19 @@ module _ (input before : List ℕ) {after : List ℕ} {behind : ℕ} (known : (i
   pub no_input :
       {middle : List ℕ} {between : ℕ}
       → length input ≤ 4096
-      → length input ≡ 0
+      → eqb (length input) 0 ≡ true
       → Puts (explained input) before 0 middle between
       → Puts usage middle between after behind
       → Shown input after behind
   unfolding printed
-  no_input few none puts more = shown (reads_as (both puts more) (rw (le-ltb 4096 (length input) few, eq-eqb (length input) 0 none)))
+  no_input few none puts more = shown (reads_as (both puts more) (rw (le-ltb 4096 (length input) few, none)))
 
   -- all other input
   pub some_input :
       length input ≤ 4096
-      → (length input ≡ 0 → ⊥)
+      → eqb (length input) 0 ≡ false
       → Puts (explained input) before 0 after behind
       → Shown input after behind
   unfolding printed
   some_input few some puts =
-      shown (reads_as (both puts (nothing after behind)) (rw (le-ltb 4096 (length input) few, ne_eqb (length input) 0 some)))
+      shown (reads_as (both puts (nothing after behind)) (rw (le-ltb 4096 (length input) few, some)))

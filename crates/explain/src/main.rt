@@ -12,8 +12,8 @@ use std::io::Write;
 // All that standard output is given. Input over 4,096 bytes is not looked at.
 fn print(input: &[u8], out: &mut [u8]) -> usize
     requires { 60000 ≤ length out.old }
-    ensures out_after { take result out.new ≡ printed input.now }
-    ensures upper_bound { result ≤ length out.new }
+    ensures text { take result out.new ≡ printed input.now }
+    ensures within { result ≤ length out.new }
 {
     if input.len() > 4096 {
         return text::put_words(
@@ -23,7 +23,7 @@ fn print(input: &[u8], out: &mut [u8]) -> usize
         );
     }
     let behind = account::put_account(out, input);
-    if input.len() == 0 {
+    if input.is_empty() {
         return text::put_words(
             out,
             behind,

@@ -10,7 +10,8 @@ use maker::Made;
 use std::io;
 use std::io::Write;
 
-// The status, and how many bytes of text there are.
+// The status, and how many bytes of text there are. The status stays the number that `nephinor::make_list`
+// returns: 0 too has a line, in which it is printed.
 #[derive(Clone, Copy)]
 struct Printed {
     status: u8,
@@ -36,9 +37,9 @@ fn make(input: &[u8], room: &mut [u8]) -> Made
 // All that standard output is given.
 fn print(input: &[u8], room: &mut [u8], out: &mut [u8]) -> Printed
     requires { (length room.old ≤ 4096) × (8277 ≤ length out.old) }
-    ensures out_after { take result.size out.new ≡ printed input.now room.old }
-    ensures size_in_bounds { result.size ≤ length out.new }
-    ensures status_value { result.status ≡ (made_of input.now room.old).status }
+    ensures text { take result.size out.new ≡ printed input.now room.old }
+    ensures within { result.size ≤ length out.new }
+    ensures status { result.status ≡ (made_of input.now room.old).status }
 {
     let made = make(input, room);
     let size = answers::put_lines(out, made.status, made.size, made.block, made.list, room);
@@ -54,11 +55,9 @@ fn main(rt: HostRuntime) -> io::Result<()> {
     let mut room = [0u8; 4096];
     let mut out = [0u8; 8292];
     let answer = print(&input[..given], &mut room, &mut out);
-    let status = answer.status;
-    let size = answer.size;
-    rt.stdout().write_all(&out[..size])?;
-    if status != 0 {
-        let said = answers::put_complaint(&mut out, status, given);
+    rt.stdout().write_all(&out[..answer.size])?;
+    if answer.status != 0 {
+        let said = answers::put_complaint(&mut out, answer.status, given);
         rt.stderr().write_all(&out[..said])?;
     }
     Ok(())

@@ -1,10 +1,6 @@
--- Statements as they are printed; and what is no operation between two operands has no text.
+-- Statements as they are printed.
 use mathlib.Core.Path.{◌≡◌, refl}
-use mathlib.Core.List.{[]}
-use Prim.Native.Nat.{ℕ, zero, suc, ◌≤◌}
-use native.Mathlib.Omega.{arith}
-use Rattle.basics.proofs.Counting.{above}
-use lib.ListN.{get_or-eq_default}
+use Prim.Native.Nat.{ℕ}
 use Rattle.meaning.specs.declared.Place.{Place}
 use Rattle.meaning.specs.declared.Place.TheVariants.{Variable, Cell}
 use Rattle.meaning.specs.declared.Operand.{Operand}
@@ -13,27 +9,6 @@ use Rattle.meaning.specs.declared.Statement.{Statement}
 use Rattle.text.specs.Text.{words, spelled}
 use Rattle.named.specs.Names.{place_text, operand_text, operation_text, statement_text}
 
-past_operations : (operation : ℕ) → 8 ≤ operation → operation_text operation ≡ []
-unfolding operation_text
-past_operations operation past = simp (get_or-eq_default)
-
-pub no_operation :
-    (n : ℕ)
-    → (n ≡ 1 → ⊥)
-    → (n ≡ 2 → ⊥)
-    → (n ≡ 3 → ⊥)
-    → (n ≡ 4 → ⊥)
-    → (n ≡ 5 → ⊥)
-    → (n ≡ 6 → ⊥)
-    → (n ≡ 7 → ⊥)
-    → operation_text n ≡ []
-unfolding operation_text
-no_operation zero _ _ _ _ _ _ _ = refl
-no_operation (suc n) one two three four five six seven =
-    let four-up : 4 ≤ suc n = above (above (above (omega arith) one) two) three in
-    past_operations (suc n) (above (above (above (above four-up four) five) six) seven)
-
--- texts as they are printed
 abbrev statement : ℕ → Place → Operand → Operand → Statement
 statement operation destination left right =
     record { operation = operation; destination = destination; left = left; right = right }

@@ -11,19 +11,20 @@ fn put_variable(out: &mut [u8], at: usize, v: u8) -> usize
     ensures { Puts (variable_text v) out.old at out.new result }
 {
     let behind = text::put_words(out, at, b"V");
-    text::put_decimal(out, behind, v as u64)
+    text::put_decimal(out, behind, u64::from(v))
 }
 
 fn put_cell(out: &mut [u8], at: usize, array: u8, index: u8) -> usize
     ensures { Puts (cell_text array index) out.old at out.new result }
 {
     let behind_letter = text::put_words(out, at, b"A");
-    let behind_array = text::put_decimal(out, behind_letter, array as u64);
+    let behind_array = text::put_decimal(out, behind_letter, u64::from(array));
     let behind_bracket = text::put_words(out, behind_array, b"[");
-    let behind_index = text::put_decimal(out, behind_bracket, index as u64);
+    let behind_index = text::put_decimal(out, behind_bracket, u64::from(index));
     text::put_words(out, behind_index, b"]")
 }
 
+#[tactic(auto, unfolding(crate::specs::Names::place_text))]
 pub fn put_place(out: &mut [u8], at: usize, place: Place) -> usize
     ensures { Puts (place_text place) out.old at out.new result }
 {
@@ -33,17 +34,19 @@ pub fn put_place(out: &mut [u8], at: usize, place: Place) -> usize
     }
 }
 
+#[tactic(auto, unfolding(crate::specs::Names::operand_text), using(text::proofs::Putting::nothing))]
 pub fn put_operand(out: &mut [u8], at: usize, operand: Operand) -> usize
     ensures { Puts (operand_text operand) out.old at out.new result }
 {
     match operand {
         Operand::Nothing => at,
-        Operand::Constant(c) => text::put_decimal(out, at, c as u64),
+        Operand::Constant(c) => text::put_decimal(out, at, u64::from(c)),
         Operand::Held(place) => put_place(out, at, place),
     }
 }
 
 // What stands between two operands, nothing for a copy and for what is no operation.
+#[tactic(auto, unfolding(crate::specs::Names::operation_text), using(text::proofs::Putting::nothing))]
 pub fn put_operation(out: &mut [u8], at: usize, operation: u8) -> usize
     ensures { Puts (operation_text operation) out.old at out.new result }
 {
@@ -62,12 +65,9 @@ pub fn put_operation(out: &mut [u8], at: usize, operation: u8) -> usize
 pub fn put_statement(out: &mut [u8], at: usize, statement: Statement) -> usize
     ensures { Puts (statement_text statement) out.old at out.new result }
 {
-    let destination = statement.destination;
-    let left = statement.left;
-    let right = statement.right;
-    let behind_destination = put_place(out, at, destination);
+    let behind_destination = put_place(out, at, statement.destination);
     let behind_equals = text::put_words(out, behind_destination, b" = ");
-    let behind_left = put_operand(out, behind_equals, left);
+    let behind_left = put_operand(out, behind_equals, statement.left);
     let behind_operation = put_operation(out, behind_left, statement.operation);
-    put_operand(out, behind_operation, right)
+    put_operand(out, behind_operation, statement.right)
 }

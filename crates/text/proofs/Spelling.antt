@@ -2,8 +2,9 @@
 use mathlib.Core.Path.{◌≡◌, refl, sym, ap, subst, ◌∙◌}
 use mathlib.Core.Bool.{Bool, true, false}
 use mathlib.Core.List.{List, [], ◌∷◌, ◌++◌}
-use Prim.Native.Nat.{ℕ, zero, suc, ◌+◌, ◌-◌, ◌*◌, ◌/◌, ◌%◌, ◌≤◌, ◌<◌}
+use Prim.Native.Nat.{ℕ, zero, suc, ◌+◌, ◌-◌, ◌*◌, ◌/◌, ◌%◌, ◌^◌, max, ◌≤◌, ◌<◌}
 use native.Mathlib.Numerals.{sub-one}
+use native.Mathlib.Nat.{pow-suc}
 use native.Mathlib.Omega.{arith}
 use borrow.Author.Tests.{lt-ltb, le-ltb}
 use mathlib.Core.Logic.{◌⊎◌, inl, inr}
@@ -47,6 +48,21 @@ pub length_more :
     (places n : ℕ) → (places ≡ 0 → ⊥) → 10 ≤ n → length (spelled places n) ≡ length (spelled (places - 1) (n / 10)) + 1
 length_more places n some large =
     ap length (spelled_more places n some large) ∙ length-append (spelled (places - 1) (n / 10)) (letter (n % 10) ∷ [])
+
+-- between two powers of ten: one digit more than the lower one has zeros
+pub length_between :
+    (places k n : ℕ) → k ≤ places → 10 ^ k ≤ max n 1 → max n 1 < 10 * 10 ^ k → length (spelled places n) ≡ k + 1
+length_between places zero n enough low high = length_one places n (omega arith)
+length_between zero (suc k) n enough low high = absurd (omega arith)
+length_between (suc places) (suc k) n enough low high =
+    let least : 10 ^ k * 10 ≤ max n 1 = rw pow-suc at low in
+    let most : max n 1 < 10 * (10 ^ k * 10) = rw pow-suc at high in
+    let front : suc places - 1 ≡ places = omega arith in
+    omega (
+      arith,
+      rw front at (length_more (suc places) n (λ (none : suc places ≡ 0). omega arith) (omega (arith, least, most))),
+      length_between places k (n / 10) (omega (arith, enough)) (omega (arith, least, most)) (omega (arith, least, most)),
+    )
 
 pub length_spelled : (places n : ℕ) → length (spelled places n) ≤ places + 1
 length_spelled zero n = omega (arith, length_none zero n refl)

@@ -8,7 +8,7 @@ ghost use Rattle.std.specs.Prelude.{[], ◌∷◌, ◌/◌, ◌%◌, ◌<◌, �
 ghost use Rattle.text.specs.Puts.{Puts};
 ghost use Rattle.text.specs.Text.{letter as letter_of, spelled, decimal, field, hex, spaces, column};
 
-// One byte.
+// One byte. The position moves only where it fits, which a total store would not say.
 pub fn put(out: &mut [u8], at: usize, byte: u8) -> usize
     ensures { Puts (byte ∷ []) out.old at out.new result }
 {
@@ -24,10 +24,8 @@ pub fn put_words(out: &mut [u8], at: usize, words: &[u8]) -> usize
     ensures { Puts words.now out.old at out.new result }
 {
     let mut behind = at;
-    let mut i = 0;
-    while i < words.len() {
-        behind = put(out, behind, words[i]);
-        i += 1;
+    for word in words {
+        behind = put(out, behind, *word);
     }
     behind
 }
@@ -36,10 +34,10 @@ fn letter(digit: u64) -> u8
     requires { digit < 16 }
     ensures { result ≡ letter_of digit }
 {
-    if digit < 10 {
-        return 48 + digit as u8;
+    match digit {
+        0..=9 => b'0' + digit as u8,
+        _ => b'a' - 10 + digit as u8,
     }
-    87 + digit as u8
 }
 
 // The digits in front of the last one, as many as there are up to `places`, and then the last one.
@@ -47,10 +45,7 @@ fn put_spelled(out: &mut [u8], at: usize, places: usize, n: u64) -> usize
     ensures { Puts (spelled places n) out.old at out.new result }
 {
     let last = letter(n % 10);
-    if places == 0 {
-        return put(out, at, last);
-    }
-    if n < 10 {
+    if places == 0 || n < 10 {
         return put(out, at, last);
     }
     let behind = put_spelled(out, at, places - 1, n / 10);
@@ -76,7 +71,7 @@ pub fn put_field(out: &mut [u8], at: usize, n: u64, end: u8) -> usize
 fn put_pair(out: &mut [u8], at: usize, byte: u8) -> usize
     ensures { Puts (letter_of (byte / 16) ∷ letter_of (byte % 16) ∷ []) out.old at out.new result }
 {
-    let n = byte as u64;
+    let n = u64::from(byte);
     let high = letter(n / 16);
     let low = letter(n % 16);
     let behind = put(out, at, high);
@@ -88,10 +83,8 @@ pub fn put_hex(out: &mut [u8], at: usize, bytes: &[u8]) -> usize
     ensures { Puts (hex bytes.now) out.old at out.new result }
 {
     let mut behind = at;
-    let mut i = 0;
-    while i < bytes.len() {
-        behind = put_pair(out, behind, bytes[i]);
-        i += 1;
+    for byte in bytes {
+        behind = put_pair(out, behind, *byte);
     }
     behind
 }
@@ -101,10 +94,8 @@ pub fn put_spaces(out: &mut [u8], at: usize, n: usize) -> usize
     ensures { Puts (spaces n) out.old at out.new result }
 {
     let mut behind = at;
-    let mut i: usize = 0;
-    while i < n {
+    for _ in 0..n {
         behind = put(out, behind, b' ');
-        i += 1;
     }
     behind
 }
@@ -113,26 +104,15 @@ pub fn put_spaces(out: &mut [u8], at: usize, n: usize) -> usize
 pub fn digits(n: u64) -> usize
     ensures { result ≡ length (decimal n) }
 {
-    let mut rest = n;
-    let mut front: usize = 0;
-    while front < 19 {
-        if rest < 10 {
-            return front + 1;
-        }
-        rest = rest / 10;
-        front += 1;
-    }
-    20
+    // 0 has one digit, as 1 has
+    n.max(1).ilog10() as usize + 1
 }
 
 // How many are left of a width, none where nothing is.
 pub fn left_of(width: usize, taken: usize) -> usize
     ensures { result ≡ width - taken }
 {
-    if width < taken {
-        return 0;
-    }
-    width - taken
+    width.saturating_sub(taken)
 }
 
 // A number in decimal, at the right end of a column; a number that is wider than the column stands whole.

@@ -7,6 +7,6 @@ use Rattle.compare.proofs.print.Goals as goal
 pub returns : goal.returns
 returns c =
     record {
-      out_after = front c.put_comparison.ensures (omega (arith, length_compared c.args.given.now, c.requires));
-      upper_bound = within c.put_comparison.ensures (omega arith);
+      text = front c.put_comparison.ensures (omega (arith, length_compared c.args.given.now, c.requires));
+      within = within c.put_comparison.ensures (omega arith);
     }

@@ -12,11 +12,6 @@ use Rattle.comparison.proofs.Parts.{within_limits}
 use borrow.Author.Rules.{rules}
 use Rattle.comparison.proofs.put_read.Goals as goal
 
-pub slice_bounds-lengths-end : goal.slice_bounds-lengths-end
-slice_bounds-lengths-end c =
-    let slots : length c.args.block.lengths ≡ 8 = search (rules, unmapped) in
-    omega (arith, slots, c.at_most-arrays.ensures)
-
 pub slice_bounds-put_sized-end : goal.slice_bounds-put_sized-end
 slice_bounds-put_sized-end c =
     let slots : length c.args.block.lengths ≡ 8 = search (rules, unmapped) in
@@ -29,7 +24,7 @@ put_sized-requires c =
     let same : take c.at_most-arrays.result c.args.block.lengths ≡ take c.args.block.arrays c.args.block.lengths =
     ap (λ (n : ℕ). take n c.args.block.lengths) arrays ∙ take_least c.args.block.arrays c.args.block.lengths in
     let limits = within_limits c.args.bytes.now c.args.block (take c.at_most-arrays.result c.args.block.lengths) c.requires same in
-    record { lengths_len_bound = limits.0; lengths_value = limits.1.0; variables_bound = limits.1.1 }
+    record { few_arrays = limits.0; lengths_fit = limits.1.0; few_variables = limits.1.1 }
 
 pub returns : goal.returns
 returns c =

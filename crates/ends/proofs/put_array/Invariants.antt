@@ -1,6 +1,6 @@
 -- What holds at each turn of the loops of `ends::put_array`.
 use mathlib.Core.List.{List}
-use Prim.Native.Nat.{ℕ, ◌-◌}
+use Prim.Native.Nat.{ℕ}
 use Rattle.meaning.specs.declared.Place.TheVariants.{Cell}
 use Rattle.memory.specs.Lent.{lent}
 use Rattle.text.proofs.Putting.{Putting}
@@ -13,7 +13,4 @@ text_of array lengths start-variables start-cells block-variables block-cells li
     place_line lengths (lent start-variables start-cells) (lent block-variables block-cells) (lent list_variables list_cells) (Cell array i)
 
 abbrev pub invariant-loop-i : goal.invariant-loop-i
-invariant-loop-i l = Putting (turns_from (text_of l.array l.lengths l.start_variables l.start_cells l.block_variables l.block_cells l.list_variables l.list_cells) l.count) l.count l.fn.out l.at l.out l.behind l.i
-
-abbrev pub decreases-loop-i : goal.decreases-loop-i
-decreases-loop-i l = l.count - l.i
+invariant-loop-i l = Putting (turns_from (text_of l.array l.ends.lengths.now l.ends.start.variables.now l.ends.start.cells.now l.ends.block.variables.now l.ends.block.cells.now l.ends.list.variables.now l.ends.list.cells.now) l.count) l.count l.fn.out l.at l.out l.behind l.i

@@ -1,6 +1,6 @@
 -- What holds at each turn of the loops of `ends::put_cells`.
 use mathlib.Core.List.{List}
-use Prim.Native.Nat.{ℕ, ◌-◌}
+use Prim.Native.Nat.{ℕ}
 use lib.ListN.{length}
 use Rattle.meaning.specs.declared.Place.{Place}
 use Rattle.memory.specs.Lent.{lent}
@@ -14,7 +14,4 @@ text_of lengths start-variables start-cells block-variables block-cells list_var
     place_line lengths (lent start-variables start-cells) (lent block-variables block-cells) (lent list_variables list_cells)
 
 abbrev pub invariant-loop-a : goal.invariant-loop-a
-invariant-loop-a l = Putting (cells_from (text_of l.lengths l.start_variables l.start_cells l.block_variables l.block_cells l.list_variables l.list_cells) l.lengths) (length l.lengths) l.fn.out l.at l.out l.behind l.a
-
-abbrev pub decreases-loop-a : goal.decreases-loop-a
-decreases-loop-a l = length l.lengths - l.a
+invariant-loop-a l = Putting (cells_from (text_of l.ends.lengths.now l.ends.start.variables.now l.ends.start.cells.now l.ends.block.variables.now l.ends.block.cells.now l.ends.list.variables.now l.ends.list.cells.now) l.ends.lengths.now) (length l.ends.lengths.now) l.fn.out l.at l.out l.behind l.a

@@ -7,7 +7,7 @@ use Rattle.list.proofs.print.Goals as goal
 pub returns : goal.returns
 returns c =
     record {
-      out_after = c.put_lines-size.ensures.out_after ∙ ap list_lines c.make-made.ensures;
-      size_in_bounds = c.put_lines-size.ensures.upper_bound;
-      status_value = ap (λ (m : ListMade). m.status) c.make-made.ensures;
+      text = c.put_lines-size.ensures.text ∙ ap list_lines c.make-made.ensures;
+      within = c.put_lines-size.ensures.within;
+      status = ap (λ (m : ListMade). m.status) c.make-made.ensures;
     }

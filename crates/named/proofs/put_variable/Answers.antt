@@ -4,4 +4,5 @@ use Rattle.named.proofs.put_variable.Goals as goal
 
 pub returns : goal.returns
 returns c =
-    both c.put_words-behind.ensures c.put_decimal.ensures
+    let number = rw c.from.ensures at c.put_decimal.ensures in
+    both c.put_words-behind.ensures number

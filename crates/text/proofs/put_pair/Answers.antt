@@ -4,4 +4,4 @@ use Rattle.text.proofs.put_pair.Goals as goal
 
 pub returns : goal.returns
 returns c =
-    reads_as (both c.put-behind.ensures c.put.ensures) (rw (c.letter-high.ensures, c.letter-low.ensures))
+    reads_as (both c.put-behind.ensures c.put.ensures) (rw (c.letter-high.ensures, c.letter-low.ensures, c.from-n.ensures))

@@ -6,19 +6,16 @@ use Rattle.text.proofs.Putting.{start, next, finish, reads_as}
 use Rattle.text.proofs.Spelling.{spaces_from, spaces_next, spaces_none}
 use Rattle.text.proofs.put_spaces.Goals as goal
 
-pub loop-i-init : goal.loop-i-init
-loop-i-init c = start (spaces_from c.args.n)
+pub loop-init : goal.loop-init
+loop-init c = start (spaces_from c.args.n)
 
-pub loop-i-preserved : goal.loop-i-preserved
-loop-i-preserved c =
+pub loop-preserved : goal.loop-preserved
+loop-preserved c =
     let n = c.args.n in
-    let more = c.loop-i-test.true in
-    next (spaces_from n) c.loop-i.invariant more (spaces_next n c.loop-i.i more) c.put-behind.ensures
-
-pub shape_of-out : goal.shape_of-out
-shape_of-out c = c.loop-i.invariant.long
+    let more = c.loop-test.true in
+    next (spaces_from n) c.loop.invariant more (spaces_next n c.loop.counter more) c.put-behind.ensures
 
 pub returns : goal.returns
 returns c =
     let n = c.args.n in
-    reads_as (finish (spaces_from n) c.loop-i.invariant (spaces_none n c.loop-i.i c.loop-i-test.false)) (ap spaces (sub-zero n))
+    reads_as (finish (spaces_from n) c.loop.invariant (spaces_none n c.loop.counter c.loop-test.false)) (ap spaces (sub-zero n))

@@ -4,19 +4,16 @@ use lib.ListN.{drop}
 use Rattle.text.proofs.Putting.{start, next, finish, drop_next, drop_none}
 use Rattle.text.proofs.put_words.Goals as goal
 
-pub loop-i-init : goal.loop-i-init
-loop-i-init c = start (λ (k : ℕ). drop k c.args.words.now)
+pub loop-word-init : goal.loop-word-init
+loop-word-init c = start (λ (k : ℕ). drop k c.args.words.now)
 
-pub loop-i-preserved : goal.loop-i-preserved
-loop-i-preserved c =
+pub loop-word-preserved : goal.loop-word-preserved
+loop-word-preserved c =
     let words = c.args.words.now in
-    let more = c.loop-i-test.true in
-    next (λ (k : ℕ). drop k words) c.loop-i.invariant more (drop_next words c.loop-i.i more) c.put-behind.ensures
-
-pub shape_of-out : goal.shape_of-out
-shape_of-out c = c.loop-i.invariant.long
+    let more = c.loop-word-test.true in
+    next (λ (k : ℕ). drop k words) c.loop-word.invariant more (drop_next words c.loop-word.word-index more) c.put-behind.ensures
 
 pub returns : goal.returns
 returns c =
     let words = c.args.words.now in
-    finish (λ (k : ℕ). drop k words) c.loop-i.invariant (drop_none words c.loop-i.i c.loop-i-test.false)
+    finish (λ (k : ℕ). drop k words) c.loop-word.invariant (drop_none words c.loop-word.word-index c.loop-word-test.false)

@@ -1,14 +1,10 @@
 -- `put_instruction` meets its contract: each code has its function.
 use mathlib.Core.Path.{sym, ap}
 use Rattle.instructions.specs.declared.Instruction.{Instruction}
+use Rattle.named.specs.Names.{operand_text}
 use Rattle.text.proofs.Putting.{reads_as}
 use Rattle.account_list.specs.Shown.{shown}
 use Rattle.account_list.proofs.instruction.put_instruction.Goals as goal
-
-pub returns-in-Broken : goal.returns-in-Broken
-unfolding shown
-returns-in-Broken c =
-    reads_as c.put_words.ensures (ap (λ (i : Instruction). shown i c.args.statement) (sym c.in-Broken.is))
 
 pub returns-in-S : goal.returns-in-S
 unfolding shown
@@ -21,14 +17,14 @@ returns-in-L c =
     reads_as c.put_l.ensures (ap (λ (i : Instruction). shown i c.args.statement) (sym c.in-L.is))
 
 pub returns-in-C : goal.returns-in-C
-unfolding shown
+unfolding shown operand_text
 returns-in-C c =
-    reads_as c.put_c.ensures (ap (λ (i : Instruction). shown i c.args.statement) (sym c.in-C.is))
+    reads_as c.put_slots.ensures (ap (λ (i : Instruction). shown i c.args.statement) (sym c.in-C.is))
 
 pub returns-in-G : goal.returns-in-G
 unfolding shown
 returns-in-G c =
-    reads_as c.put_g.ensures (ap (λ (i : Instruction). shown i c.args.statement) (sym c.in-G.is))
+    reads_as c.put_slots-in-G.ensures (ap (λ (i : Instruction). shown i c.args.statement) (sym c.in-G.is))
 
 pub returns-in-Copy : goal.returns-in-Copy
 unfolding shown
@@ -48,9 +44,9 @@ returns-in-W c =
 pub returns-in-D : goal.returns-in-D
 unfolding shown
 returns-in-D c =
-    reads_as c.put_d.ensures (ap (λ (i : Instruction). shown i c.args.statement) (sym c.in-D.is))
+    reads_as c.put_stored.ensures (ap (λ (i : Instruction). shown i c.args.statement) (sym c.in-D.is))
 
 pub returns-in-X : goal.returns-in-X
 unfolding shown
 returns-in-X c =
-    reads_as c.put_x.ensures (ap (λ (i : Instruction). shown i c.args.statement) (sym c.in-X.is))
+    reads_as c.put_stored-in-X.ensures (ap (λ (i : Instruction). shown i c.args.statement) (sym c.in-X.is))

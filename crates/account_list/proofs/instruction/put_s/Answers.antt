@@ -4,4 +4,4 @@ use Rattle.account_list.proofs.instruction.put_s.Goals as goal
 
 pub returns : goal.returns
 returns c =
-    both (both (both c.put_words-behind_letter.ensures c.put_decimal-behind_number.ensures) c.put_words-behind_colon.ensures) c.put_statement.ensures
+    both (both (both c.put_words-behind_letter.ensures (rw c.from.ensures at c.put_decimal-behind_number.ensures)) c.put_words-behind_colon.ensures) c.put_statement.ensures

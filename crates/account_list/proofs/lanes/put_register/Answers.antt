@@ -4,4 +4,4 @@ use Rattle.account_list.proofs.lanes.put_register.Goals as goal
 
 pub returns : goal.returns
 returns c =
-    both c.put_words-behind.ensures c.put_decimal.ensures
+    both c.put_words-behind.ensures (rw c.from.ensures at c.put_decimal.ensures)

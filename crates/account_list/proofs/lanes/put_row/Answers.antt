@@ -9,8 +9,8 @@ loop-i-init c =
 
 pub loop-i-preserved : goal.loop-i-preserved
 loop-i-preserved c =
-    next (row_from c.args.k c.args.array c.args.index) c.loop-i.invariant c.loop-i-test.true (row_next c.args.k c.args.array c.args.index c.loop-i.i c.loop-i-test.true)
-    c.put_cell-behind.ensures
+    next (row_from c.args.k c.args.array c.args.index) c.loop-i.invariant (rw c.from-i-end.ensures at c.loop-i-test.true) (row_next c.args.k c.args.array c.args.index c.loop-i.i (rw c.from-i-end.ensures at c.loop-i-test.true))
+    (rw c.from-first.ensures at c.put_cell-behind.ensures)
 
 pub shape_of-out : goal.shape_of-out
 shape_of-out c = c.loop-i.invariant.long
@@ -18,5 +18,5 @@ shape_of-out c = c.loop-i.invariant.long
 pub returns : goal.returns
 returns c =
     reads_as
-    (finish (row_from c.args.k c.args.array c.args.index) c.loop-i.invariant (row_none c.args.k c.args.array c.args.index c.loop-i.i c.loop-i-test.false))
+    (finish (row_from c.args.k c.args.array c.args.index) c.loop-i.invariant (row_none c.args.k c.args.array c.args.index c.loop-i.i (rw c.from-i-end.ensures at c.loop-i-test.false)))
     (row_whole c.args.k c.args.array c.args.index)

@@ -11,9 +11,6 @@ pub loop-s-preserved : goal.loop-s-preserved
 loop-s-preserved c =
     tell_next (chain_line c.args.next.now c.args.rights c.args.count) c.loop-s.invariant c.loop-s-test.true c.put_chain_from-behind.ensures
 
-pub shape_of-out : goal.shape_of-out
-shape_of-out c = c.loop-s.invariant.long
-
 pub returns : goal.returns
 returns c =
     tell_finish (chain_line c.args.next.now c.args.rights c.args.count) c.loop-s.invariant c.loop-s-test.false

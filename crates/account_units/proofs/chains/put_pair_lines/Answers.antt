@@ -11,9 +11,6 @@ pub loop-i-preserved : goal.loop-i-preserved
 loop-i-preserved c =
     tell_next (pair_line c.args.order.now c.args.next.now) c.loop-i.invariant c.loop-i-test.true c.put_pair-behind.ensures
 
-pub shape_of-out : goal.shape_of-out
-shape_of-out c = c.loop-i.invariant.long
-
 pub returns : goal.returns
 returns c =
     tell_finish (pair_line c.args.order.now c.args.next.now) c.loop-i.invariant c.loop-i-test.false

@@ -1,37 +1,29 @@
 -- `numbers::put_lanes` meets its contract: each turn puts the number in the next lane.
-use mathlib.Core.Path.{◌≡◌}
-use Prim.Native.Nat.{ℕ}
+use mathlib.Core.Path.{◌≡◌, ap, ◌∙◌}
+use mathlib.Core.List.{List}
+use Prim.Native.Nat.{ℕ, min}
 use native.Mathlib.Omega.{arith}
-use lib.ListN.{length, drop}
+use lib.ListN.{length, take, drop}
 use Rattle.basics.proofs.Mapped.{unmapped}
-use Rattle.text.proofs.Putting.{start, next, finish}
-use Rattle.account_units.specs.Lines.{numbers_text}
-use Rattle.account_units.specs.InTables.{unit_numbers}
-use Rattle.account_units.proofs.Turns.{lanes_more, lanes_none}
+use Rattle.basics.proofs.Lists.{take_least}
+use Rattle.text.proofs.Putting.{start, next, finish, reads_as, drop_next, drop_none}
+use Rattle.account_units.specs.Lines.{number_text, numbers_text}
 use borrow.Author.Rules.{rules}
 use Rattle.account_units.proofs.numbers.put_lanes.Goals as goal
 
-pub loop-i-init : goal.loop-i-init
-loop-i-init c = start (λ (k : ℕ). numbers_text (drop k (unit_numbers c.args.unit)))
+pub loop-lane-init : goal.loop-lane-init
+loop-lane-init c = start (λ (k : ℕ). numbers_text (drop k (take c.min-count.result c.args.unit.lanes)))
 
-pub shape_of-out-then-unit-i : goal.shape_of-out-then-unit-i
-shape_of-out-then-unit-i c = c.loop-i.invariant.long
-
-pub returns-then-unit-i : goal.returns-then-unit-i
-returns-then-unit-i c =
-    finish (λ (k : ℕ). numbers_text (drop k (unit_numbers c.args.unit))) c.loop-i.invariant (lanes_none c.args.unit c.loop-i.i (omega (arith, c.if-unit-i.true)))
-
-pub loop-i-preserved : goal.loop-i-preserved
-loop-i-preserved c =
-    let sized : length c.args.unit.lanes ≡ 4 = search (rules, unmapped) in
-    next (λ (k : ℕ). numbers_text (drop k (unit_numbers c.args.unit))) c.loop-i.invariant c.loop-i-test.true
-    (lanes_more c.args.unit c.loop-i.i c.if-unit-i.false (omega (arith, sized, c.loop-i-test.true))) c.put_number-behind.ensures
-
-pub shape_of-out : goal.shape_of-out
-shape_of-out c = c.loop-i.invariant.long
+pub loop-lane-preserved : goal.loop-lane-preserved
+loop-lane-preserved c =
+    let lanes : List ℕ = take c.min-count.result c.args.unit.lanes in
+    next (λ (k : ℕ). numbers_text (drop k lanes)) c.loop-lane.invariant c.loop-lane-test.true
+    (ap numbers_text (drop_next lanes c.loop-lane.lane-index c.loop-lane-test.true)) (reads_as c.put_number-behind.ensures (ap number_text c.from-in-loop-lane.ensures))
 
 pub returns : goal.returns
 returns c =
     let sized : length c.args.unit.lanes ≡ 4 = search (rules, unmapped) in
-    finish (λ (k : ℕ). numbers_text (drop k (unit_numbers c.args.unit))) c.loop-i.invariant
-    (lanes_none c.args.unit c.loop-i.i (omega (arith, sized, c.loop-i-test.false)))
+    let lanes : List ℕ = take c.min-count.result c.args.unit.lanes in
+    let many : c.min-count.result ≡ min c.args.unit.count (length c.args.unit.lanes) = omega arith in
+    reads_as (finish (λ (k : ℕ). numbers_text (drop k lanes)) c.loop-lane.invariant (ap numbers_text (drop_none lanes c.loop-lane.lane-index c.loop-lane-test.false)))
+    (ap numbers_text (ap (λ (k : ℕ). take k c.args.unit.lanes) many ∙ take_least c.args.unit.count c.args.unit.lanes))

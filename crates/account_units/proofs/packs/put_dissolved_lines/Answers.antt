@@ -11,9 +11,6 @@ pub loop-s-preserved : goal.loop-s-preserved
 loop-s-preserved c =
     tell_next (dissolved_line c.args.table.now c.args.waiting c.args.scheduled.now c.args.count) c.loop-s.invariant c.loop-s-test.true c.put_dissolved_at-behind.ensures
 
-pub shape_of-out : goal.shape_of-out
-shape_of-out c = c.loop-s.invariant.long
-
 pub returns : goal.returns
 returns c =
     tell_finish (dissolved_line c.args.table.now c.args.waiting c.args.scheduled.now c.args.count) c.loop-s.invariant c.loop-s-test.false

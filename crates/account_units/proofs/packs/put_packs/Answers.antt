@@ -1,6 +1,6 @@
--- `packs::put_packs` meets its contract: the heading, the packs, and that there is none.
-use Rattle.account_units.proofs.Telling.{section_put}
+-- `packs::put_packs` meets its contract: the section's lines are those that its closure puts.
+use Rattle.std.proofs.Common.{of_calls}
 use Rattle.account_units.proofs.packs.put_packs.Goals as goal
 
 pub returns : goal.returns
-returns c = section_put c.put_words-start.ensures c.put_pack_lines-behind.ensures c.put_none.ensures
+returns c = c.put_section.ensures _ λ before start behind after said. search of_calls

@@ -17,9 +17,6 @@ loop-i-preserved c =
     tell_next (λ k. word_line (get_or c.args.scheduled.now k 0)) c.loop-i.invariant c.loop-i-test.true
     (reads_as c.put_unit-behind.ensures (ap (λ (unit : Lanes). numbers_line (unit_numbers unit)) c.unit_at-unit.ensures))
 
-pub shape_of-out : goal.shape_of-out
-shape_of-out c = c.loop-i.invariant.long
-
 pub returns : goal.returns
 returns c =
     tell_finish (λ k. word_line (get_or c.args.scheduled.now k 0)) c.loop-i.invariant c.loop-i-test.false

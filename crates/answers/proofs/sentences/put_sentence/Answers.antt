@@ -1,35 +1,29 @@
 -- `sentences::put_sentence` meets its contract: each number has its sentence.
 use mathlib.Core.Path.{sym, ap}
-use Rattle.text.proofs.Putting.{reads_as, nothing}
+use Rattle.text.proofs.Putting.{reads_as}
 use Rattle.answers.specs.Sentences.{sentence}
-use Rattle.answers.proofs.Chosen.{no_sentence}
 use Rattle.answers.proofs.sentences.put_sentence.Goals as goal
 
-pub returns-then-number-eq1 : goal.returns-then-number-eq1
+pub returns-in-1 : goal.returns-in-1
 unfolding sentence
-returns-then-number-eq1 c = reads_as c.put_words.ensures (ap sentence (sym c.if-number-eq1.true))
+returns-in-1 c = reads_as c.put_words.ensures (ap sentence (sym c.in-1.is))
 
-pub returns-then-number-eq2 : goal.returns-then-number-eq2
+pub returns-in-2 : goal.returns-in-2
 unfolding sentence
-returns-then-number-eq2 c = reads_as c.put_words-then-number-eq2.ensures (ap sentence (sym c.if-number-eq2.true))
+returns-in-2 c = reads_as c.put_words-in-2.ensures (ap sentence (sym c.in-2.is))
 
-pub returns-then-number-eq3 : goal.returns-then-number-eq3
+pub returns-in-3 : goal.returns-in-3
 unfolding sentence
-returns-then-number-eq3 c = reads_as c.put_words-then-number-eq3.ensures (ap sentence (sym c.if-number-eq3.true))
+returns-in-3 c = reads_as c.put_words-in-3.ensures (ap sentence (sym c.in-3.is))
 
-pub returns-then-number-eq4 : goal.returns-then-number-eq4
+pub returns-in-4 : goal.returns-in-4
 unfolding sentence
-returns-then-number-eq4 c = reads_as c.put_words-then-number-eq4.ensures (ap sentence (sym c.if-number-eq4.true))
+returns-in-4 c = reads_as c.put_words-in-4.ensures (ap sentence (sym c.in-4.is))
 
-pub returns-then-number-eq5 : goal.returns-then-number-eq5
+pub returns-in-5 : goal.returns-in-5
 unfolding sentence
-returns-then-number-eq5 c = reads_as c.put_words-then-number-eq5.ensures (ap sentence (sym c.if-number-eq5.true))
+returns-in-5 c = reads_as c.put_words-in-5.ensures (ap sentence (sym c.in-5.is))
 
-pub returns-then-number-eq7 : goal.returns-then-number-eq7
+pub returns-in-7 : goal.returns-in-7
 unfolding sentence
-returns-then-number-eq7 c = reads_as c.put_words-then-number-eq7.ensures (ap sentence (sym c.if-number-eq7.true))
-
-pub returns : goal.returns
-returns c =
-    reads_as (nothing c.args.out.now c.args.at)
-    (no_sentence c.args.number c.if-number-eq1.false c.if-number-eq2.false c.if-number-eq3.false c.if-number-eq4.false c.if-number-eq5.false c.if-number-eq7.false)
+returns-in-7 c = reads_as c.put_words-in-7.ensures (ap sentence (sym c.in-7.is))

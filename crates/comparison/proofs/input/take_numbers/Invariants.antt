@@ -1,13 +1,12 @@
 -- What holds at each turn of the loops of `comparison::input.take_numbers`.
 use mathlib.Core.Path.{◌≡◌}
-use Prim.Native.Nat.{◌-◌, ◌≤◌}
 use lib.ListN.{length}
 use Rattle.comparison.specs.Input.{numbers_in}
 use Rattle.comparison.proofs.Numbers.{taken_from}
 use Rattle.comparison.proofs.input.take_numbers.Given as goal
 
 abbrev pub invariant-loop-i : goal.invariant-loop-i
-invariant-loop-i l = (l.i ≤ length l.fn.numbers) × ((length l.numbers ≡ length l.fn.numbers) × (taken_from l.numbers (length l.fn.numbers) l.bytes l.i ≡ numbers_in (length l.fn.numbers) l.bytes))
-
-abbrev pub decreases-loop-i : goal.decreases-loop-i
-decreases-loop-i l = length l.fn.numbers - l.i
+invariant-loop-i l = record {
+  as_many : length l.numbers ≡ length l.fn.numbers;
+  taken : taken_from l.numbers (length l.fn.numbers) l.bytes l.i ≡ numbers_in (length l.fn.numbers) l.bytes;
+}

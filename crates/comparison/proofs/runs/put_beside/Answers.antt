@@ -1,13 +1,7 @@
 -- `runs::put_beside` meets its contract: its six parts, one behind the other.
-use mathlib.Core.Path.{◌∙◌}
-use Rattle.text.proofs.Putting.{both, same_length as kept}
+use Rattle.text.proofs.Putting.{both}
 use Rattle.comparison.specs.Lines.{beside_text}
 use Rattle.comparison.proofs.runs.put_beside.Goals as goal
-
-pub shape_of-out : goal.shape_of-out
-shape_of-out c =
-    kept c.put_verdict.ensures ∙ kept c.put_variables-behind_variables.ensures ∙ kept c.put_cells-behind_cells.ensures
-    ∙ kept c.put_words-behind_heading.ensures ∙ kept c.put_run-behind_list.ensures ∙ kept c.put_run-behind_block.ensures
 
 pub returns : goal.returns
 unfolding beside_text

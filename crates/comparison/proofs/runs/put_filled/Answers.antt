@@ -10,15 +10,15 @@ use Rattle.comparison.proofs.runs.put_filled.Goals as goal
 
 pub take_numbers-requires-5 : goal.take_numbers-requires-5
 take_numbers-requires-5 c =
-    omega (arith, c.requires.start_variables_len_bound.0, c.requires.block_variables_len.1)
+    omega (arith, c.requires.few_to_take.0, c.requires.as_many_variables.1)
 
 pub take_numbers-requires-6 : goal.take_numbers-requires-6
 take_numbers-requires-6 c =
-    omega (arith, c.requires.start_variables_len_bound.1, c.requires.block_cells_len.1)
+    omega (arith, c.requires.few_to_take.1, c.requires.as_many_cells.1)
 
 pub put_run_sides-requires : goal.put_run_sides-requires
 put_run_sides-requires c =
-    record { lengths_len_bound = c.requires.lengths_len_bound; lengths_value = c.requires.lengths_value }
+    record { few_arrays = c.requires.few_arrays; lengths_fit = c.requires.lengths_fit }
 
 pub shape_of-start_variables : goal.shape_of-start_variables
 shape_of-start_variables c = c.take_numbers.auto.numbers
@@ -34,7 +34,7 @@ returns c =
     (filled c.args.lengths.now c.args.live c.args.bytes.now c.args.room.now
     c.take_numbers.ensures
     c.take_numbers-2.ensures
-    (c.take_numbers-3.ensures ∙ ap variables c.requires.block_variables_len.0)
-    (c.take_numbers-4.ensures ∙ ap cells c.requires.block_cells_len.0)
-    (c.take_numbers-5.ensures ∙ ap variables c.requires.block_variables_len.1)
-    (c.take_numbers-6.ensures ∙ ap cells c.requires.block_cells_len.1))
+    (c.take_numbers-3.ensures ∙ ap variables c.requires.as_many_variables.0)
+    (c.take_numbers-4.ensures ∙ ap cells c.requires.as_many_cells.0)
+    (c.take_numbers-5.ensures ∙ ap variables c.requires.as_many_variables.1)
+    (c.take_numbers-6.ensures ∙ ap cells c.requires.as_many_cells.1))

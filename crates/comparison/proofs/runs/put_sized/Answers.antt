@@ -8,31 +8,31 @@ use Rattle.comparison.proofs.runs.put_sized.Goals as goal
 
 pub overflow_add-needed : goal.overflow_add-needed
 overflow_add-needed c =
-    let cells : c.cell_at-cells.result ≡ sum c.args.lengths.now = c.cell_at-cells.ensures ∙ every_cell c.args.lengths.now c.requires.lengths_len_bound in
-    omega (arith, cells, few_in_all c.args.lengths.now c.requires.lengths_len_bound c.requires.lengths_value, c.requires.variables_bound)
+    let cells : c.cell_at-cells.result ≡ sum c.args.lengths.now = c.cell_at-cells.ensures ∙ every_cell c.args.lengths.now c.requires.few_arrays in
+    omega (arith, cells, few_in_all c.args.lengths.now c.requires.few_arrays c.requires.lengths_fit, c.requires.few_variables)
 
 pub overflow_mul-needed : goal.overflow_mul-needed
 overflow_mul-needed c =
-    let cells : c.cell_at-cells.result ≡ sum c.args.lengths.now = c.cell_at-cells.ensures ∙ every_cell c.args.lengths.now c.requires.lengths_len_bound in
-    omega (arith, cells, few_in_all c.args.lengths.now c.requires.lengths_len_bound c.requires.lengths_value, c.requires.variables_bound)
+    let cells : c.cell_at-cells.result ≡ sum c.args.lengths.now = c.cell_at-cells.ensures ∙ every_cell c.args.lengths.now c.requires.few_arrays in
+    omega (arith, cells, few_in_all c.args.lengths.now c.requires.few_arrays c.requires.lengths_fit, c.requires.few_variables)
 
 pub returns-then-rest-needed : goal.returns-then-rest-needed
 returns-then-rest-needed c =
-    let cells : c.cell_at-cells.result ≡ sum c.args.lengths.now = c.cell_at-cells.ensures ∙ every_cell c.args.lengths.now c.requires.lengths_len_bound in
+    let cells : c.cell_at-cells.result ≡ sum c.args.lengths.now = c.cell_at-cells.ensures ∙ every_cell c.args.lengths.now c.requires.few_arrays in
     reads_as c.put_wrong_size.ensures
-    (wrong_size_lem c.args.bytes.now c.args.lengths.now c.args.variables c.args.live c.args.rest.now c.cell_at-cells.result cells c.if-rest-needed.true)
+    (wrong_size_lem c.args.bytes.now c.args.lengths.now c.args.variables c.args.live c.args.rest.now c.from-count.result c.cell_at-cells.result c.from-count.ensures cells c.if-rest-needed.true)
 
 pub put_declared-requires : goal.put_declared-requires
 put_declared-requires c =
-    let cells : c.cell_at-cells.result ≡ sum c.args.lengths.now = c.cell_at-cells.ensures ∙ every_cell c.args.lengths.now c.requires.lengths_len_bound in
+    let cells : c.cell_at-cells.result ≡ sum c.args.lengths.now = c.cell_at-cells.ensures ∙ every_cell c.args.lengths.now c.requires.few_arrays in
     record {
-      lengths_len_bound = c.requires.lengths_len_bound;
-      lengths_value = c.requires.lengths_value;
-      variables_bound = (c.requires.variables_bound, omega (arith, cells, few_in_all c.args.lengths.now c.requires.lengths_len_bound c.requires.lengths_value));
+      few_arrays = c.requires.few_arrays;
+      lengths_fit = c.requires.lengths_fit;
+      few_places = (omega (arith, c.from-count.ensures, c.requires.few_variables), omega (arith, cells, few_in_all c.args.lengths.now c.requires.few_arrays c.requires.lengths_fit));
     }
 
 pub returns : goal.returns
 returns c =
-    let cells : c.cell_at-cells.result ≡ sum c.args.lengths.now = c.cell_at-cells.ensures ∙ every_cell c.args.lengths.now c.requires.lengths_len_bound in
+    let cells : c.cell_at-cells.result ≡ sum c.args.lengths.now = c.cell_at-cells.ensures ∙ every_cell c.args.lengths.now c.requires.few_arrays in
     reads_as c.put_declared.ensures
-    (right_size_lem c.args.bytes.now c.args.lengths.now c.args.variables c.args.live c.args.rest.now c.cell_at-cells.result cells c.if-rest-needed.false)
+    (right_size_lem c.args.bytes.now c.args.lengths.now c.args.variables c.args.live c.args.rest.now c.from-count.result c.cell_at-cells.result c.from-count.ensures cells c.if-rest-needed.false)

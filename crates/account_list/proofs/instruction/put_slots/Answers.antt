@@ -1,6 +1,6 @@
--- `put_g` meets its contract: the register and the operands that it gathers.
+-- `put_slots` meets its contract: the register, and what stands in its lanes.
 use Rattle.text.proofs.Putting.{both}
-use Rattle.account_list.proofs.instruction.put_g.Goals as goal
+use Rattle.account_list.proofs.instruction.put_slots.Goals as goal
 
 pub returns : goal.returns
 returns c =
