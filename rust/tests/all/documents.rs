@@ -140,6 +140,13 @@ fn given(line: &str) -> Option<&str> {
     (opened || words.next() == Some(":")).then_some(name)
 }
 
+/// The name of a function that a line of code begins: `fn name(`, `pub fn name<`.
+fn begun(line: &str) -> Option<&str> {
+    let line = line.trim_start();
+    let behind = line.strip_prefix("pub ").unwrap_or(line).strip_prefix("fn ")?;
+    behind.split(['(', '<']).next()
+}
+
 /// Whether a name stands in a file of definitions or proofs, or in some file of a folder.
 fn stands(name: &str, place: &Path) -> bool {
     let files = if place.is_dir() { files(place) } else { vec![place.to_path_buf()] };
@@ -184,15 +191,32 @@ fn names_stand_in_their_files() {
     expect_none(wrong);
 }
 
-/// Every other word is the name of a crate, a file or a folder, or of something stated or proved.
-#[test]
-fn names_are_of_something() {
+/// The names of crates, files and folders, of what is stated or proved, and of the functions of the
+/// crates.
+fn known_names() -> BTreeSet<String> {
     let mut known = BTreeSet::new();
     for file in ["crates", "rust/compare/src"].iter().flat_map(|folder| files(&at(folder))) {
         known.extend(file.iter().map(|part| part.to_string_lossy().into_owned()));
         known.insert(file.file_stem().expect("a name").to_string_lossy().into_owned());
-        known.extend(read(&file).lines().filter_map(given).map(str::to_string));
+        let name =
+            if file.extension().is_some_and(|ending| ending == "rt") { begun } else { given };
+        known.extend(read(&file).lines().filter_map(name).map(str::to_string));
     }
+    known
+}
+
+/// A call that no proof is kept of is known by its code, and a call that is not there is not known.
+#[test]
+fn names_that_are_known() {
+    let known = known_names();
+    assert!(known.contains("make_list") && known.contains("nephinor_run_list"));
+    assert!(!known.contains("make_block") && !known.contains("nephinor_list"));
+}
+
+/// Every other word is such a name.
+#[test]
+fn names_are_of_something() {
+    let known = known_names();
     let words = quoted(PROMISES).into_iter().map(|(word, _)| word);
     expect_none(words.filter(|word| !word.contains([' ', '/']) && !known.contains(word)).collect());
 }
