@@ -29,7 +29,7 @@ PHASES = {
     "follows": ("What follows from it", "meaning", ["theorems"]),
     "read": ("Reading a block", "blocks", ["reader"]),
     "write": ("Writing a block", "blocks", ["writer"]),
-    "run": ("Running a block", "blocks", ["run_block", "memory", "word"]),
+    "run": ("Running a block", "blocks", ["run_block", "memory", "word", "slices"]),
     "facts": ("Facts of statements", "maker", ["facts", "codes", "rows"]),
     "reach": ("Dependence", "maker", ["reach"]),
     "pairs": ("Pairs, seeding", "maker", ["pairs"]),
