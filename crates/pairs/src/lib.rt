@@ -2,9 +2,10 @@
 
 #![tactic(auto)]
 
-ghost use Rattle.std.specs.Prelude.{◌≡◌, ◌+◌, ◌≤◌, ◌<◌, length};
+ghost use Rattle.std.specs.Prelude.{◌≡◌, [], ◌+◌, ◌≤◌, ◌<◌, length};
 ghost use Rattle.meaning.specs.Pairs.{pair};
-ghost use Rattle.pairs.specs.Admission.{admitted_tables, empty, admitted_in, admit_to, leads_to, may_join, may_pair, first_admitted, cells_above, neighbours_of, seed_tables, seeded_tables};
+ghost use Rattle.facts.specs.Facts.{fact_at};
+ghost use Rattle.pairs.specs.Admission.{tables, admitted_tables, empty, admitted_in, admit_to, leads_to, may_join, may_pair, first_admitted, cells_above, neighbours_of, seed_tables, seeded_tables};
 
 use facts::Tables;
 use meaning::Statement;
@@ -39,40 +40,18 @@ impl Admitted {
         }
     }
 
-    // A chain of admitted pairs leads from one statement to another.
-    fn leads(&self, from: usize, to: usize) -> bool
-        ensures { result ≡ leads_to self.now.count self.now.next from to }
-    {
-        let mut at = from;
-        // i is not read: it has a name for the invariant, which says how far the chain was followed
-        for i in 0..self.count {
-            at = rows::number_at(&self.next, at);
-            if at == to {
-                return true;
-            }
-            if at == rows::NONE {
-                return false;
-            }
-        }
-        false
-    }
-
-    // "s is not yet left in a pair; t is not yet right in one; no chain of admitted pairs leads from t
-    // back to s"
-    fn may_join(&self, s: usize, t: usize) -> bool
-        ensures { result ≡ may_join (admitted_tables self.now) s t }
-    {
-        rows::number_at(&self.next, s) == rows::NONE
-            && !rows::has(self.rights, t)
-            && !self.leads(t, s)
-    }
-
     pub fn may_admit(&self, tables: &Tables, reached: &[u64], s: usize, t: usize) -> bool
         ensures { result ≡ may_pair tables.now.facts reached.now (admitted_tables self.now) s t }
     {
-        tables.fact(facts::SORT, s) == tables.fact(facts::SORT, t)
-            && reach::independent(reached, s, t)
-            && self.may_join(s, t)
+        may_be_admitted(
+            &tables.facts,
+            reached,
+            &self.next,
+            self.count,
+            self.rights,
+            s,
+            t,
+        )
     }
 
     pub fn has(&self, s: usize, t: usize) -> bool
@@ -117,6 +96,62 @@ impl Admitted {
             self.admit(s, t);
         }
     }
+}
+
+// A chain of admitted pairs leads from one statement to another. `next` has for each statement that
+// is left in a pair the one that is right in it, else NONE.
+fn leads(next: &[u8], from: usize, to: usize, count: usize) -> bool
+    ensures { result ≡ leads_to count next.now from to }
+{
+    let mut at = from;
+    // i is not read: it has a name for the invariant, which says how far the chain was followed
+    for i in 0..count {
+        at = rows::number_at(next, at);
+        if at == to {
+            return true;
+        }
+        if at == rows::NONE {
+            return false;
+        }
+    }
+    false
+}
+
+// "s is not yet left in a pair; t is not yet right in one; no chain of admitted pairs leads from t
+// back to s"
+fn may_join(next: &[u8], count: usize, rights: u64, s: usize, t: usize) -> bool
+    ensures { result ≡ may_join (tables [] next.now count rights) s t }
+{
+    rows::number_at(next, s) == rows::NONE && !rows::has(rights, t) && !leads(next, t, s, count)
+}
+
+// A statement's sort, from the columns of facts.
+fn sort_of(facts: &[u64], s: usize) -> u64
+    ensures { result ≡ fact_at facts.now 192 s }
+{
+    if s < 64 {
+        slices::at_or(facts, facts::SORT + s, 0)
+    } else {
+        0
+    }
+}
+
+// The test by which a pair is admitted, over tables of any length: the columns of facts, the rows of
+// what each statement reaches, the partners, how many pairs there are, and who is right in one.
+pub fn may_be_admitted(
+    facts: &[u64],
+    reached: &[u64],
+    next: &[u8],
+    count: usize,
+    rights: u64,
+    s: usize,
+    t: usize,
+) -> bool
+    ensures { result ≡ may_pair facts.now reached.now (tables [] next.now count rights) s t }
+{
+    sort_of(facts, s) == sort_of(facts, t)
+        && reach::independent(reached, s, t)
+        && may_join(next, count, rights, s, t)
 }
 
 // The statements that have in this position a cell of the same array, one above the one that the

@@ -1,7 +1,7 @@
--- `pairs::Admitted::leads` meets its contract.
+-- `pairs::leads` meets its contract.
 use mathlib.Core.Path.{sym, ◌∙◌}
 use Rattle.pairs.proofs.Steps.{leads_end, leads_there, leads_out, leads_on}
-use Rattle.pairs.proofs.Admitted.leads.Goals as goal
+use Rattle.pairs.proofs.leads.Goals as goal
 
 pub returns-then-at-to : goal.returns-then-at-to
 returns-then-at-to c =
