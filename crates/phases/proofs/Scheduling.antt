@@ -2,11 +2,9 @@
 -- scheduled units of the block.
 use mathlib.Core.Path.{◌≡◌, refl, sym, ap, ap₂, subst, subst₂, ◌∙◌}
 use Prim.Native.Nat.{ℕ, ◌≤◌, ◌<◌}
-use mathlib.Core.Bool.{true}
 use mathlib.Core.List.{List}
 use lib.ListN.{length, take, replicate, length-replicate}
 use lib.Seq.{get_or-take}
-use Rattle.basics.specs.Lists.{all}
 use Rattle.meaning.specs.declared.Statement.{Statement}
 use Rattle.meaning.specs.Block.{Block, blank, statement}
 use Rattle.meaning.specs.Seeding.{seed}
@@ -15,7 +13,7 @@ use Rattle.meaning.specs.Combination.{combine}
 use Rattle.meaning.specs.Choice.{scheduled_units}
 use Rattle.theorems.proofs.Pairing.{seed_admitted, pairs_admitted}
 use Rattle.theorems.proofs.Combination.{combined_units}
-use Rattle.codes.specs.Fitting.{statement_fits}
+use Rattle.facts.specs.declared.Tables.{Tables as Filled}
 use Rattle.reach.specs.Rows.{direct_rows, reached_rows}
 use Rattle.reach.specs.Tied.{Rowed}
 use Rattle.reach.proofs.Reaching.{rowed}
@@ -31,77 +29,67 @@ use Rattle.combine.specs.Cutting.{Tables as Cut, tables as cut-tables, combined}
 use Rattle.combine.proofs.Tied.{combined_waits}
 use Rattle.schedule.specs.Stages.{Stage, scheduled_tables}
 use Rattle.schedule.proofs.Steps.{schedule_in_order}
-use Rattle.phases.specs.Prepared.{Prepared}
+use Rattle.phases.specs.Prepared.{Prepared, TablesPrepared}
 use Rattle.phases.proofs.Fits.{legal_fits}
 
 zeros_long : length (replicate {A = ℕ} 64 0) ≡ 64
 zeros_long = length-replicate {A = ℕ} 64 0
 
-module _ (b : Block) (slots : List Statement) (front : take (length b.statements) slots ≡ b.statements)
-    (facts numbers writers lefts rights : List ℕ) (prepared : Prepared b facts numbers writers lefts rights) where
-  abbrev ss : List Statement
-  ss = b.statements
-
-  few : length ss ≤ 64
-  few = prepared.legal.readable.count
-
-  fit : all statement_fits ss ≡ true
-  fit = legal_fits b prepared.legal
-
+module _ (ss slots : List Statement) (front : take (length ss) slots ≡ ss) (t : Filled) (prepared : TablesPrepared ss t) where
   in_slots_lem : (i : ℕ) → i < length ss → statement slots i ≡ statement ss i
   in_slots_lem i below = sym (get_or-take (length ss) slots i blank below) ∙ ap (λ (rows : List Statement). statement rows i) front
 
   abbrev direct : List ℕ
-  direct = direct_rows slots (length ss) numbers writers lefts rights
+  direct = direct_rows slots (length ss) t.numbers t.writers t.lefts t.rights
 
   abbrev reached : List ℕ
   reached = reached_rows direct (length ss)
 
   rows : Rowed ss direct reached
-  rows = rowed ss few fit numbers writers lefts rights prepared.named slots in_slots_lem
+  rows = rowed ss prepared.few prepared.fit t.numbers t.writers t.lefts t.rights prepared.named slots in_slots_lem
 
-  seeded : seeded_tables slots (length ss) facts reached numbers writers lefts rights empty ≡ tables_of (seed ss)
-  seeded = seeded_tables_lem ss facts direct reached few prepared.stated rows numbers writers lefts rights fit prepared.named slots (length ss) front refl
+  seeded : seeded_tables slots (length ss) t.facts reached t.numbers t.writers t.lefts t.rights empty ≡ tables_of (seed ss)
+  seeded = seeded_tables_lem ss t.facts direct reached prepared.few prepared.stated rows t.numbers t.writers t.lefts t.rights prepared.fit prepared.named slots (length ss) front refl
 
-  extended : visit_tables_from (length ss) facts reached 0 (seeded_tables slots (length ss) facts reached numbers writers lefts rights empty) ≡ tables_of (extend ss (seed ss))
+  extended : visit_tables_from (length ss) t.facts reached 0 (seeded_tables slots (length ss) t.facts reached t.numbers t.writers t.lefts t.rights empty) ≡ tables_of (extend ss (seed ss))
   extended =
-      ap (visit_tables_from (length ss) facts reached 0) seeded
-      ∙ extend_tied ss facts direct reached few fit prepared.stated rows prepared.defined (seed ss) (seed_admitted ss)
+      ap (visit_tables_from (length ss) t.facts reached 0) seeded
+      ∙ extend_tied ss t.facts direct reached prepared.few prepared.fit prepared.stated rows prepared.defined (seed ss) (seed_admitted ss)
 
   abbrev pairs : Tables
-  pairs = visit_tables_from (length ss) facts reached 0 (seeded_tables slots (length ss) facts reached numbers writers lefts rights empty)
+  pairs = visit_tables_from (length ss) t.facts reached 0 (seeded_tables slots (length ss) t.facts reached t.numbers t.writers t.lefts t.rights empty)
 
   abbrev waiting : Cut
   waiting = combined (length ss) reached direct pairs.next pairs.rights (cut-tables (replicate 64 0) (replicate 64 0) 0)
 
   waits : Waits direct (combine ss (extend ss (seed ss))) waiting.units waiting.needs waiting.waiting
   waits =
-      combined_waits ss (extend ss (seed ss)) direct reached pairs.next pairs.rights few (pairs_admitted ss)
-      (subst (λ (t : Tables). Paired (extend ss (seed ss)) t.next t.rights) (sym extended) (tables_paired ss (extend ss (seed ss)) (pairs_admitted ss) few))
-      rows (replicate 64 0) (replicate 64 0) (subst (λ (k : ℕ). length ss ≤ k) (sym zeros_long) few) (subst (λ (k : ℕ). length ss ≤ k) (sym zeros_long) few)
+      combined_waits ss (extend ss (seed ss)) direct reached pairs.next pairs.rights prepared.few (pairs_admitted ss)
+      (subst (λ (t : Tables). Paired (extend ss (seed ss)) t.next t.rights) (sym extended) (tables_paired ss (extend ss (seed ss)) (pairs_admitted ss) prepared.few))
+      rows (replicate 64 0) (replicate 64 0) (subst (λ (k : ℕ). length ss ≤ k) (sym zeros_long) prepared.few) (subst (λ (k : ℕ). length ss ≤ k) (sym zeros_long) prepared.few)
 
   in_order : 64 ≤ length waiting.units → 64 ≤ length waiting.needs
       → let s = scheduled_tables (length ss) direct waiting.units waiting.needs waiting.waiting (replicate 64 0) in InOrder (scheduled_units ss) s.order s.size
   unfolding scheduled_units
   in_order units_long needs_long =
-      schedule_in_order ss direct reached rows few (combine ss (extend ss (seed ss))) waiting.units waiting.needs (replicate 64 0) waiting.waiting
-      (combined_units ss (extend ss (seed ss)) (pairs_admitted ss)) waits units_long needs_long (subst (λ (k : ℕ). length ss ≤ k) (sym zeros_long) few)
+      schedule_in_order ss direct reached rows prepared.few (combine ss (extend ss (seed ss))) waiting.units waiting.needs (replicate 64 0) waiting.waiting
+      (combined_units ss (extend ss (seed ss)) (pairs_admitted ss)) waits units_long needs_long (subst (λ (k : ℕ). length ss ≤ k) (sym zeros_long) prepared.few)
 
   -- the tables as the phases leave them, one after the other
-  module _ (n : ℕ) (d r : List ℕ) (s e : Tables) (counted : length ss ≡ n) (ed : d ≡ direct_rows slots n numbers writers lefts rights) (er : r ≡ reached_rows d n)
-      (es : s ≡ seeded_tables slots n facts r numbers writers lefts rights empty) (ee : e ≡ visit_tables_from n facts r 0 s) where
+  module _ (n : ℕ) (d r : List ℕ) (s e : Tables) (counted : length ss ≡ n) (ed : d ≡ direct_rows slots n t.numbers t.writers t.lefts t.rights) (er : r ≡ reached_rows d n)
+      (es : s ≡ seeded_tables slots n t.facts r t.numbers t.writers t.lefts t.rights empty) (ee : e ≡ visit_tables_from n t.facts r 0 s) where
     same_direct : d ≡ direct
-    same_direct = ed ∙ ap (λ (k : ℕ). direct_rows slots k numbers writers lefts rights) (sym counted)
+    same_direct = ed ∙ ap (λ (k : ℕ). direct_rows slots k t.numbers t.writers t.lefts t.rights) (sym counted)
 
     same_reached : r ≡ reached
     same_reached = er ∙ ap₂ reached_rows same_direct (sym counted)
 
-    same_seeded : s ≡ seeded_tables slots (length ss) facts reached numbers writers lefts rights empty
-    same_seeded = es ∙ ap₂ (λ (k : ℕ) (rows : List ℕ). seeded_tables slots k facts rows numbers writers lefts rights empty) (sym counted) same_reached
+    same_seeded : s ≡ seeded_tables slots (length ss) t.facts reached t.numbers t.writers t.lefts t.rights empty
+    same_seeded = es ∙ ap₂ (λ (k : ℕ) (rows : List ℕ). seeded_tables slots k t.facts rows t.numbers t.writers t.lefts t.rights empty) (sym counted) same_reached
 
     same_pairs : e ≡ pairs
     same_pairs =
-        ee ∙ ap₂ (λ (k : ℕ) (rows : List ℕ). visit_tables_from k facts rows 0 s) (sym counted) same_reached ∙ ap (visit_tables_from (length ss) facts reached 0) same_seeded
+        ee ∙ ap₂ (λ (k : ℕ) (rows : List ℕ). visit_tables_from k t.facts rows 0 s) (sym counted) same_reached ∙ ap (visit_tables_from (length ss) t.facts reached 0) same_seeded
 
     -- The tables of pairs have the pairs of the block.
     pub pairs_extended : e ≡ tables_of (extend ss (seed ss))
@@ -130,3 +118,24 @@ module _ (b : Block) (slots : List Statement) (front : take (length b.statements
           ∙ ap (λ (t : Cut). scheduled_tables (length ss) direct t.units t.needs t.waiting (replicate 64 0)) same_waiting in
           subst₂ (InOrder (scheduled_units ss)) (sym (eo ∙ ap (λ (t : Stage). t.order) whole)) (sym (ez ∙ ap (λ (t : Stage). t.size) whole))
           (in_order (subst (λ (t : Cut). 64 ≤ length t.units) same_waiting long) (subst (λ (t : Cut). 64 ≤ length t.needs) same_waiting long'))
+
+-- The same of a block that was read.
+module _ (b : Block) (slots : List Statement) (front : take (length b.statements) slots ≡ b.statements)
+    (facts numbers writers lefts rights : List ℕ) (prepared : Prepared b facts numbers writers lefts rights)
+    (n : ℕ) (d r : List ℕ) (s e : Tables) (counted : length b.statements ≡ n) (ed : d ≡ direct_rows slots n numbers writers lefts rights) (er : r ≡ reached_rows d n)
+    (es : s ≡ seeded_tables slots n facts r numbers writers lefts rights empty) (ee : e ≡ visit_tables_from n facts r 0 s)
+    (c : Cut) (ec : c ≡ combined n r d e.next e.rights (cut-tables (replicate 64 0) (replicate 64 0) 0)) where
+  pub block_scheduled : (order : List ℕ) (size : ℕ) → 64 ≤ length c.units → 64 ≤ length c.needs
+      → order ≡ (scheduled_tables n d c.units c.needs c.waiting (replicate 64 0)).order
+      → size ≡ (scheduled_tables n d c.units c.needs c.waiting (replicate 64 0)).size
+      → InOrder (scheduled_units b.statements) order size
+  block_scheduled =
+      units_scheduled b.statements slots front (record { facts = facts; numbers = numbers; writers = writers; lefts = lefts; rights = rights })
+      (record {
+        few = prepared.legal.readable.count;
+        fit = legal_fits b prepared.legal;
+        stated = prepared.stated;
+        defined = prepared.defined;
+        named = prepared.named;
+      })
+      n d r s e counted ed er es ee c ec
