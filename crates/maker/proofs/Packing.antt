@@ -25,31 +25,26 @@ use Rattle.phases.specs.Prepared.{Prepared, TablesPrepared}
 use Rattle.phases.proofs.Fits.{legal_fits}
 
 -- The packed list stands in the first bytes.
-pub tables_packed : (b : Block) (t : Tables) (order out after : List ℕ) (size : ℕ) (w : Written) → Legal b → TablesPrepared b.statements t
-    → InOrder (scheduled_units b.statements) order size → 3844 ≤ length out → listing after w ≡ emission_in t.facts t.numbers t.writers order size b.live out
-    → Holds b.statements (packed_list b) after w.size w.price
+pub packed_made : (b : Block) (facts numbers writers lefts rights order out after : List ℕ) (size : ℕ) (w : Written)
+    → Prepared b facts numbers writers lefts rights → InOrder (scheduled_units b.statements) order size → 3844 ≤ length out
+    → listing after w ≡ emission_in facts numbers writers order size b.live out → Holds b.statements (packed_list b) after w.size w.price
 unfolding packed_list
-tables_packed b t order out after size w legal prepared ordered room made =
+packed_made b facts numbers writers lefts rights order out after size w prepared ordered room made =
+    let legal = prepared.legal in
     let m =
-    emission_made b legal.readable legal.constants (scheduled_units b.statements) (units_of_lem b.statements) t.facts t.numbers t.writers order size out
-    (record { stated = prepared.stated; fit = prepared.fit; formed = legal.readable.formed; few = prepared.few })
+    emission_made b legal.readable legal.constants (scheduled_units b.statements) (units_of_lem b.statements) facts numbers writers order size out
+    (record { stated = prepared.stated; fit = legal_fits b legal; formed = legal.readable.formed; few = legal.readable.count })
     prepared.named.writing ordered room in
     subst (λ (l : Listing). Holds b.statements (packed_list b) l.out l.written.size l.written.price) (sym made)
     (record { bytes = m.bytes; sized = m.size; room = m.room; priced = m.price })
 
--- The same of five lists in place of the struct.
-pub packed_made : (b : Block) (facts numbers writers lefts rights order out after : List ℕ) (size : ℕ) (w : Written)
-    → Prepared b facts numbers writers lefts rights → InOrder (scheduled_units b.statements) order size → 3844 ≤ length out
-    → listing after w ≡ emission_in facts numbers writers order size b.live out → Holds b.statements (packed_list b) after w.size w.price
-packed_made b facts numbers writers lefts rights order out after size w prepared =
-    tables_packed b (record { facts = facts; numbers = numbers; writers = writers; lefts = lefts; rights = rights }) order out after size w prepared.legal
-    (record {
-      few = prepared.legal.readable.count;
-      fit = legal_fits b prepared.legal;
-      stated = prepared.stated;
-      defined = prepared.defined;
-      named = prepared.named;
-    })
+-- The same of the struct in place of five lists.
+pub tables_packed : (b : Block) (t : Tables) (order out after : List ℕ) (size : ℕ) (w : Written) → Legal b → TablesPrepared b.statements t
+    → InOrder (scheduled_units b.statements) order size → 3844 ≤ length out → listing after w ≡ emission_in t.facts t.numbers t.writers order size b.live out
+    → Holds b.statements (packed_list b) after w.size w.price
+tables_packed b t order out after size w legal prepared =
+    packed_made b t.facts t.numbers t.writers t.lefts t.rights order out after size w
+    (record { legal = legal; stated = prepared.stated; defined = prepared.defined; named = prepared.named })
 
 -- The same of the slots in front, as many as are declared.
 module _ (block : Slots) (n : ℕ) (counted : n ≡ length (declared block).statements) where
